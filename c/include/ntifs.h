@@ -753,6 +753,18 @@ NTSTATUS RtlUTF8StringToUnicodeString(PUNICODE_STRING DestinationString, PUTF8_S
 NTSTATUS RtlUnicodeToUTF8N(PCHAR UTF8StringDestination, ULONG UTF8StringMaxByteCount, PULONG UTF8StringActualByteCount, PCWCH UnicodeStringSource, ULONG UnicodeStringByteCount);
 NTSTATUS RtlCharToInteger(PCSZ String, ULONG Base, PULONG Value);
 NTSTATUS RtlIntegerToChar(ULONG Value, ULONG Base, LONG OutputLength, PSTR String);
+VOID RtlCopyString(PSTRING DestinationString, const STRING *SourceString);
+NTSTATUS RtlAppendStringToString(PSTRING Destination, const STRING *Source);
+NTSTATUS RtlAppendAsciizToString(PSTRING Destination, PCSZ Source);
+LONG RtlCompareString(const STRING *String1, const STRING *String2, BOOLEAN CaseInSensitive);
+BOOLEAN RtlEqualString(const STRING *String1, const STRING *String2, BOOLEAN CaseInSensitive);
+BOOLEAN RtlPrefixString(const STRING *String1, const STRING *String2, BOOLEAN CaseInSensitive);
+WCHAR RtlAnsiCharToUnicodeChar(PUCHAR *SourceCharacter);
+SIZE_T RtlCompareMemoryUlong(PVOID Source, SIZE_T Length, ULONG Pattern);
+VOID RtlFillMemoryUlong(PVOID Destination, SIZE_T Length, ULONG Pattern);
+ULONG RtlComputeCrc32(ULONG PartialCrc, const VOID *Buffer, ULONG Length);
+BOOLEAN RtlAreAllAccessesGranted(ACCESS_MASK GrantedAccess, ACCESS_MASK DesiredAccess);
+BOOLEAN RtlAreAnyAccessesGranted(ACCESS_MASK GrantedAccess, ACCESS_MASK DesiredAccess);
 VOID RtlUpperString(PSTRING DestinationString, const STRING *SourceString);
 ULONG RtlCrc32(const VOID *Buffer, SIZE_T Size, ULONG InitialCrc);
 ULONG RtlLengthSid(PSID Sid);

@@ -436,8 +436,9 @@ VOID RtlInitUnicodeString(PUNICODE_STRING DestinationString, PCWSTR SourceString
 NTSTATUS RtlInitUnicodeStringEx(PUNICODE_STRING DestinationString, PCWSTR SourceString);
 VOID RtlInitEmptyUnicodeString(PUNICODE_STRING UnicodeString, PWSTR Buffer, USHORT BufferSize);
 VOID RtlInitAnsiString(PANSI_STRING DestinationString, PCSZ SourceString);
-#define RtlInitString RtlInitAnsiString
+VOID RtlInitString(PSTRING DestinationString, PCSZ SourceString);
 BOOLEAN RtlEqualUnicodeString(PCUNICODE_STRING String1, PCUNICODE_STRING String2, BOOLEAN CaseInSensitive);
+LONG RtlCompareUnicodeStrings(PCWCH String1, SIZE_T String1Length, PCWCH String2, SIZE_T String2Length, BOOLEAN CaseInSensitive);
 LONG RtlCompareUnicodeString(PCUNICODE_STRING String1, PCUNICODE_STRING String2, BOOLEAN CaseInSensitive);
 BOOLEAN RtlPrefixUnicodeString(PCUNICODE_STRING String1, PCUNICODE_STRING String2, BOOLEAN CaseInSensitive);
 BOOLEAN RtlSuffixUnicodeString(PCUNICODE_STRING String1, PCUNICODE_STRING String2, BOOLEAN CaseInSensitive);
@@ -504,6 +505,9 @@ ULONG RtlFindClearRuns(PRTL_BITMAP BitMapHeader, PRTL_BITMAP_RUN RunArray, ULONG
 ULONG RtlFindSetRuns(PRTL_BITMAP BitMapHeader, PRTL_BITMAP_RUN RunArray, ULONG SizeOfRunArray, BOOLEAN LocateLongestRuns);
 ULONG RtlFindLongestRunClear(PRTL_BITMAP BitMapHeader, PULONG StartingIndex);
 ULONG RtlFindLongestRunSet(PRTL_BITMAP BitMapHeader, PULONG StartingIndex);
+#define RtlUshortByteSwap(number) __builtin_bswap16(number)
+#define RtlUlongByteSwap(number) __builtin_bswap32(number)
+#define RtlUlonglongByteSwap(number) __builtin_bswap64(number)
 CCHAR RtlFindMostSignificantBit(ULONGLONG Set);
 CCHAR RtlFindLeastSignificantBit(ULONGLONG Set);
 
@@ -1227,7 +1231,8 @@ NTSTATUS RtlGetVersion(PRTL_OSVERSIONINFOW VersionInformation);
 BOOLEAN PsGetVersion(PULONG MajorVersion, PULONG MinorVersion, PULONG BuildNumber, PUNICODE_STRING CSDVersion);
 BOOLEAN RtlIsNtDdiVersionAvailable(ULONG Version);
 ULONG RtlRandomEx(PULONG Seed);
-#define RtlRandom RtlRandomEx
+ULONG RtlRandom(PULONG Seed);
+ULONG RtlUniform(PULONG Seed);
 #define RtlRaiseStatus ExRaiseStatus
 KPROCESSOR_MODE ExGetPreviousMode(VOID);
 NTSTATUS ExUuidCreate(GUID *Uuid);

@@ -107,13 +107,6 @@ BOOLEAN RtlIsNtDdiVersionAvailable(ULONG Version)
     return Version <= NTDDI_WIN10_RS1;
 }
 
-ULONG RtlRandomEx(PULONG Seed)
-{
-    kz_uses_all();
-    *Seed = *Seed * 1103515245 + 12345;
-    return *Seed & MAXLONG;
-}
-
 NTSTATUS ExUuidCreate(GUID *Uuid)
 {
     KZ_INSIDE_ALONE();
@@ -126,11 +119,4 @@ NTSTATUS ExUuidCreate(GUID *Uuid)
 BOOLEAN MmIsAddressValid(PVOID VirtualAddress)
 {
     return VirtualAddress != NULL;
-}
-
-PVOID MmGetSystemRoutineAddress(PUNICODE_STRING SystemRoutineName)
-{
-    KZ_INSIDE_ALONE();
-    (void)SystemRoutineName; /* as in an older kernel: a driver that asks copes with none */
-    return NULL;
 }

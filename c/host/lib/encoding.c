@@ -69,16 +69,26 @@ static ULONG spell(ULONG letter, UCHAR *bytes)
     return count;
 }
 
-/* One letter of bytes: how many. Of what is none the longest beginning of one counts, and else one byte. */
+/* What so many bytes of a letter begin is none, however it goes on: it is too small for its length, half of a pair, or too large. */
+static bool is_no_beginning(ULONG begun, ULONG left, ULONG least)
+{
+    ULONG low = begun << 6 * left, high = low | ((1u << 6 * left) - 1);
+    return high < least || low >= 0x110000 || (low >= 0xd800 && high < 0xe000);
+}
+
+/* One letter of bytes: how many. Of what is none the longest beginning of one counts, with the byte by which it is none if that goes on, and else one byte. */
 static ULONG take_bytes(const UCHAR *from, ULONG left, ULONG *letter, NTSTATUS *status)
 {
     static const ULONG least[] = {0, 0, 0x80, 0x800, 0x10000};
     UCHAR first = from[0];
     ULONG count = first < 0x80 ? 1 : first >= 0xc2 && first < 0xe0 ? 2 : first >= 0xe0 && first < 0xf0 ? 3 : first >= 0xf0 && first < 0xf5 ? 4 : 0, at = 1;
     *letter = count < 2 ? first : first & (0x7fu >> count);
-    for (; at < count && at < left && (from[at] & 0xc0) == 0x80; at++)
+    bool is_none = count == 0;
+    for (; !is_none && at < count && at < left && (from[at] & 0xc0) == 0x80; at++) {
         *letter = *letter << 6 | (from[at] & 0x3f);
-    if (count && at == count && *letter >= least[count] && *letter < 0x110000 && (*letter < 0xd800 || *letter >= 0xe000))
+        is_none = is_no_beginning(*letter, count - at - 1, least[count]);
+    }
+    if (!is_none && at == count)
         return at;
     *letter = REPLACEMENT;
     *status = STATUS_SOME_NOT_MAPPED;
@@ -93,7 +103,9 @@ NTSTATUS RtlUnicodeToUTF8N(PCHAR UTF8StringDestination, ULONG UTF8StringMaxByteC
     NTSTATUS status = STATUS_SUCCESS;
     if (!UnicodeStringSource)
         return STATUS_INVALID_PARAMETER_4;
-    if (UnicodeStringByteCount % sizeof(WCHAR))
+    if (!UTF8StringActualByteCount)
+        return STATUS_INVALID_PARAMETER;
+    if (UTF8StringDestination && UnicodeStringByteCount % sizeof(WCHAR))
         return STATUS_INVALID_PARAMETER_5;
     for (ULONG at = 0; at < length && status != STATUS_BUFFER_TOO_SMALL;) {
         at += take_letter(UnicodeStringSource + at, length - at, &letter, &status);
@@ -116,18 +128,17 @@ NTSTATUS RtlUTF8ToUnicodeN(PWSTR UnicodeStringDestination, ULONG UnicodeStringMa
     NTSTATUS status = STATUS_SUCCESS;
     if (!UTF8StringSource)
         return STATUS_INVALID_PARAMETER_4;
+    if (!UnicodeStringActualByteCount)
+        return STATUS_INVALID_PARAMETER;
     for (ULONG at = 0; at < UTF8StringByteCount && status != STATUS_BUFFER_TOO_SMALL;) {
         at += take_bytes((const UCHAR *)UTF8StringSource + at, UTF8StringByteCount - at, &letter, &status);
-        bool is_pair = letter >= 0x10000;
-        if (UnicodeStringDestination && written + 1 + is_pair > room) {
-            status = STATUS_BUFFER_TOO_SMALL;
-        } else {
-            if (UnicodeStringDestination) {
-                UnicodeStringDestination[written] = (WCHAR)(is_pair ? 0xd800 + ((letter - 0x10000) >> 10) : letter);
-                if (is_pair)
-                    UnicodeStringDestination[written + 1] = (WCHAR)(0xdc00 + (letter & 0x3ff));
-            }
-            written += 1u + is_pair;
+        WCHAR pair[] = {(WCHAR)(letter >= 0x10000 ? 0xd800 + ((letter - 0x10000) >> 10) : letter), (WCHAR)(0xdc00 + (letter & 0x3ff))};
+        for (unsigned half = 0; half <= (letter >= 0x10000) && status != STATUS_BUFFER_TOO_SMALL; half++) { /* the room may end between them */
+            if (UnicodeStringDestination && written == room)
+                status = STATUS_BUFFER_TOO_SMALL;
+            else if (UnicodeStringDestination)
+                UnicodeStringDestination[written] = pair[half];
+            written += status != STATUS_BUFFER_TOO_SMALL;
         }
     }
     *UnicodeStringActualByteCount = written * (ULONG)sizeof(WCHAR);

@@ -150,6 +150,8 @@ static char size_at(const void *format, bool is_wide, size_t *at)
             size = size == 'l' ? 'q' : 'l';
         else if (letter == 'w')
             size = 'w';
+        else if (letter == 'L') /* of a long double alone */
+            continue;
         else if (letter == 'z' || letter == 'j' || letter == 't')
             size = 'q';
         else if (letter == 'I' && next == '3')

@@ -86,12 +86,11 @@ NTSTATUS RtlInt64ToUnicodeString(ULONGLONG Value, ULONG Base, PUNICODE_STRING St
         return STATUS_INVALID_PARAMETER;
     size_t at = write_digits(Value, Base ? Base : 10, digits), length = DIGITS - at;
     String->Length = (USHORT)(length * sizeof(WCHAR));
-    if (String->Length > String->MaximumLength)
+    if (String->Length >= String->MaximumLength) /* there is room for a null, too */
         return STATUS_BUFFER_OVERFLOW;
     for (size_t digit = 0; digit < length; digit++)
         String->Buffer[digit] = (WCHAR)digits[at + digit];
-    if (String->Length + sizeof(WCHAR) <= String->MaximumLength)
-        String->Buffer[length] = 0;
+    String->Buffer[length] = 0;
     return STATUS_SUCCESS;
 }
 

@@ -1,5 +1,5 @@
 /* Routines of the run-time library that need nothing of the system. */
-#include "host.h"
+#include "core/client.h"
 
 /* ---- Time: 1970 began so many units of 100 nanoseconds after 1601. */
 #define SECOND 10000000LL
@@ -74,12 +74,9 @@ ULONG RtlCrc32(const VOID *Buffer, SIZE_T Size, ULONG InitialCrc)
     return ~crc;
 }
 
-VOID RtlUpperString(PSTRING DestinationString, const STRING *SourceString)
+ULONG RtlComputeCrc32(ULONG PartialCrc, const VOID *Buffer, ULONG Length)
 {
-    USHORT length = SourceString->Length < DestinationString->MaximumLength ? SourceString->Length : DestinationString->MaximumLength;
-    for (USHORT at = 0; at < length; at++)
-        DestinationString->Buffer[at] = RtlUpperChar(SourceString->Buffer[at]);
-    DestinationString->Length = length;
+    return RtlCrc32(Buffer, Length, PartialCrc);
 }
 
 /* The first part of a path, up to its `\`, and the rest behind that. */
@@ -104,4 +101,50 @@ SIZE_T RtlCompareMemory(const VOID *Source1, const VOID *Source2, SIZE_T Length)
     while (same < Length && ((const UCHAR *)Source1)[same] == ((const UCHAR *)Source2)[same])
         same++;
     return same;
+}
+
+/* The bytes from its beginning that are made of that pattern, in whole ULONGs. */
+SIZE_T RtlCompareMemoryUlong(PVOID Source, SIZE_T Length, ULONG Pattern)
+{
+    SIZE_T same = 0;
+    while (same < Length / sizeof(ULONG) && ((const ULONG *)Source)[same] == Pattern)
+        same++;
+    return same * sizeof(ULONG);
+}
+
+VOID RtlFillMemoryUlong(PVOID Destination, SIZE_T Length, ULONG Pattern)
+{
+    for (SIZE_T at = 0; at < Length / sizeof(ULONG); at++)
+        ((ULONG *)Destination)[at] = Pattern;
+}
+
+BOOLEAN RtlAreAllAccessesGranted(ACCESS_MASK GrantedAccess, ACCESS_MASK DesiredAccess)
+{
+    return !(DesiredAccess & ~GrantedAccess);
+}
+
+BOOLEAN RtlAreAnyAccessesGranted(ACCESS_MASK GrantedAccess, ACCESS_MASK DesiredAccess)
+{
+    return (GrantedAccess & DesiredAccess) != 0;
+}
+
+/* ---- Numbers that look random: those of Lehmer's generator with the kit's two constants. */
+ULONG RtlUniform(PULONG Seed)
+{
+    kz_uses_all();
+    *Seed = (ULONG)((*Seed * 0x7fffffedULL + 0x7fffffc3) % MAXLONG);
+    return *Seed;
+}
+
+/* What it answers isn't the seed that it leaves. */
+ULONG RtlRandomEx(PULONG Seed)
+{
+    ULONG made = RtlUniform(Seed);
+    RtlUniform(Seed);
+    return made;
+}
+
+ULONG RtlRandom(PULONG Seed)
+{
+    return RtlRandomEx(Seed);
 }

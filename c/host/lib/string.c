@@ -28,12 +28,6 @@ VOID RtlInitEmptyUnicodeString(PUNICODE_STRING UnicodeString, PWSTR Buffer, USHO
     *UnicodeString = (UNICODE_STRING){0, BufferSize, Buffer};
 }
 
-VOID RtlInitAnsiString(PANSI_STRING DestinationString, PCSZ SourceString)
-{
-    USHORT length = SourceString ? (USHORT)strlen(SourceString) : 0;
-    *DestinationString = (ANSI_STRING){length, SourceString ? (USHORT)(length + 1) : 0, (PCHAR)SourceString};
-}
-
 WCHAR RtlUpcaseUnicodeChar(WCHAR SourceCharacter)
 {
     return kz_upcase(SourceCharacter);
@@ -44,25 +38,26 @@ WCHAR RtlDowncaseUnicodeChar(WCHAR SourceCharacter)
     return kz_downcase(SourceCharacter);
 }
 
-CHAR RtlUpperChar(CHAR Character)
+static LONG compare(const WCHAR *a, size_t length1, const WCHAR *b, size_t length2, BOOLEAN is_loose)
 {
-    return (CHAR)(Character & 0x80 ? Character : kz_upcase((WCHAR)Character));
-}
-
-static LONG compare(const WCHAR *a, USHORT length1, const WCHAR *b, USHORT length2, BOOLEAN is_loose)
-{
-    for (USHORT at = 0; at < length1 && at < length2; at++) {
+    for (size_t at = 0; at < length1 && at < length2; at++) {
         LONG apart = is_loose ? kz_upcase(a[at]) - kz_upcase(b[at]) : a[at] - b[at];
         if (apart)
             return apart;
     }
-    return length1 - length2;
+    return (LONG)length1 - (LONG)length2;
 }
 
 LONG RtlCompareUnicodeString(PCUNICODE_STRING String1, PCUNICODE_STRING String2, BOOLEAN CaseInSensitive)
 {
     KZ_INSIDE_AS_DRIVER();
     return compare(String1->Buffer, String1->Length / sizeof(WCHAR), String2->Buffer, String2->Length / sizeof(WCHAR), CaseInSensitive);
+}
+
+LONG RtlCompareUnicodeStrings(PCWCH String1, SIZE_T String1Length, PCWCH String2, SIZE_T String2Length, BOOLEAN CaseInSensitive)
+{
+    KZ_INSIDE_AS_DRIVER();
+    return compare(String1, String1Length, String2, String2Length, CaseInSensitive);
 }
 
 BOOLEAN RtlEqualUnicodeString(PCUNICODE_STRING String1, PCUNICODE_STRING String2, BOOLEAN CaseInSensitive)
@@ -186,12 +181,14 @@ NTSTATUS RtlUnicodeStringToAnsiString(PANSI_STRING DestinationString, PCUNICODE_
             return STATUS_NO_MEMORY;
     }
     NTSTATUS status = length < DestinationString->MaximumLength ? STATUS_SUCCESS : STATUS_BUFFER_OVERFLOW;
+    DestinationString->Length = length;
+    if (!DestinationString->MaximumLength)
+        return status;
     if (status != STATUS_SUCCESS)
-        length = DestinationString->MaximumLength ? DestinationString->MaximumLength - 1 : 0;
+        length = DestinationString->MaximumLength - 1;
     for (USHORT at = 0; at < length; at++)
         DestinationString->Buffer[at] = kz_to_code_page(SourceString->Buffer[at]);
-    if (DestinationString->MaximumLength)
-        DestinationString->Buffer[length] = 0;
+    DestinationString->Buffer[length] = 0;
     DestinationString->Length = length;
     return status;
 }

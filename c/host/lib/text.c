@@ -36,10 +36,10 @@ size_t KzWcslen(const WCHAR *text)
     return KzWcsnlen(text, SIZE_MAX);
 }
 
-static int compare(const WCHAR *a, const WCHAR *b, size_t most, bool is_exact)
+static int compare(const WCHAR *a, const WCHAR *b, size_t most)
 {
     for (size_t at = 0; at < most; at++) {
-        int apart = is_exact ? a[at] - b[at] : lower(a[at]) - lower(b[at]);
+        int apart = a[at] - b[at];
         if (apart || !a[at])
             return apart < 0 ? -1 : apart > 0;
     }
@@ -49,23 +49,34 @@ static int compare(const WCHAR *a, const WCHAR *b, size_t most, bool is_exact)
 int KzWcscmp(const WCHAR *a, const WCHAR *b)
 {
     kz_check_text(a, "wcscmp");
-    return compare(a, b, SIZE_MAX, true);
+    return compare(a, b, SIZE_MAX);
 }
 
 int KzWcsncmp(const WCHAR *a, const WCHAR *b, size_t most)
 {
-    return compare(a, b, most, true);
+    return compare(a, b, most);
+}
+
+/* Without the case of A to Z alone, as the kernel's library has it, and by how much they differ. */
+static int compare_letters(const WCHAR *a, const WCHAR *b, size_t most)
+{
+    for (size_t at = 0; at < most; at++) {
+        int one = a[at] >= 'A' && a[at] <= 'Z' ? a[at] + 32 : a[at], other = b[at] >= 'A' && b[at] <= 'Z' ? b[at] + 32 : b[at];
+        if (one != other || !one)
+            return one - other;
+    }
+    return 0;
 }
 
 int KzWcsicmp(const WCHAR *a, const WCHAR *b)
 {
     kz_check_text(a, "_wcsicmp");
-    return compare(a, b, SIZE_MAX, false);
+    return compare_letters(a, b, SIZE_MAX);
 }
 
 int KzWcsnicmp(const WCHAR *a, const WCHAR *b, size_t most)
 {
-    return compare(a, b, most, false);
+    return compare_letters(a, b, most);
 }
 
 WCHAR *KzWcscpy(WCHAR *to, const WCHAR *from)
@@ -289,7 +300,7 @@ typedef struct {
 static void put_in(void *sink, WCHAR letter)
 {
     Room *room = sink;
-    if (room->length < room->room) {
+    if (room->to && room->length < room->room) {
         if (room->is_wide)
             ((WCHAR *)room->to)[room->length] = letter;
         else
@@ -298,7 +309,7 @@ static void put_in(void *sink, WCHAR letter)
     room->length++;
 }
 
-/* As _vsnprintf: a null behind where there is room for it; -1 for what doesn't fit. */
+/* As _vsnprintf: a null behind where there is room for it; -1 for what doesn't fit, unless only its length is asked for. */
 static int print(void *to, size_t size, bool is_wide, const void *format, va_list given)
 {
     Room room = {to, size, 0, is_wide};
@@ -306,6 +317,8 @@ static int print(void *to, size_t size, bool is_wide, const void *format, va_lis
     va_copy(arguments, given);
     kz_format(put_in, &room, format, is_wide, &arguments);
     va_end(arguments);
+    if (!to && !size)
+        return (int)room.length;
     if (room.length < size) {
         size_t length = room.length;
         put_in(&room, 0);

@@ -180,7 +180,6 @@ create 0 new y share#nothing stands behind `share`
 create 0 new y share 1 share 2#`share` stands there twice
 create 0 new y access GENERIC_READ|#there is no ``
 create 0 new y access GENERIC_REED#there is no `GENERIC_REED`; the nearest is GENERIC_READ
-create 0 new y options 0x1000000#`0x1000000` isn't within FILE_VALID_OPTION_FLAGS
 create 0 new y options 0x1000000000#`0x1000000000` is no number of 32 bits
 create 0 new y attributes FILE_SHARE_READ#there is no `FILE_SHARE_READ`
 create 0 new y as#nothing stands behind `as`

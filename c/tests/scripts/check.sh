@@ -16,6 +16,7 @@
 #   order     the lists that all managers are held to
 #   image     binaries of drivers, by the toolchains that are here: each sample compared with what its source prints, exceptions, files that can't run, changed files
 #   headers   constants, structures and prototypes compared with those of mingw-w64, if its headers are there: by its name alone, and in thorough.sh
+#   conformance  suites of Debian's source packages, as drivers: by its name alone, where the packages can be had
 #   mount     the mount above fltd
 #   serve     the server of drivers: the same frames as fltd, and the mount above it
 #
@@ -37,8 +38,8 @@ if [ -z "${KAZDRIN_LIB:-}" ]; then
     [ -f "$KAZDRIN_LIB" ] || KAZDRIN_LIB=$("$here/../../archive.sh" --unproved) || exit 1
     export KAZDRIN_LIB
 fi
-# All are those that this file's head names, but for headers.
-mapfile -t usual < <(sed -n 's/^#   \([a-z]*\)  .*/\1/p' "$0" | grep -vx headers)
+# All are those that this file's head names, but for headers and conformance.
+mapfile -t usual < <(sed -n 's/^#   \([a-z]*\)  .*/\1/p' "$0" | grep -vx -e headers -e conformance)
 [ $# -gt 0 ] || set -- "${usual[@]}"
 passed=0
 failed=0

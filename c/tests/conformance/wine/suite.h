@@ -8,6 +8,8 @@
 #include <ntifs.h>
 #include <ntstrsafe.h>
 #include <stdarg.h>
+#include <winerror.h>
+#include <numbers.h>
 
 #define __WINE_WINTERNL_H
 #define WINAPIV
@@ -88,7 +90,6 @@ void suite_check_there(int is_met, const char *format, ...);
 #define IS_TEXT_UNICODE_ODD_LENGTH 0x200
 #define IS_TEXT_UNICODE_UNICODE_MASK 0xf
 #define IS_TEXT_UNICODE_REVERSE_MASK 0xf0
-#define ERROR_NO_UNICODE_TRANSLATION 1113
 int suite_wide(ULONG page, ULONG flags, const char *text, int length, WCHAR *room, int size);
 int suite_narrow(ULONG page, ULONG flags, const WCHAR *text, int length, char *room, int size);
 #define MultiByteToWideChar suite_wide

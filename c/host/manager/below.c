@@ -13,6 +13,7 @@
 #include "filesystem/fileobject.h"
 #include "filesystem/name.h"
 #include "filesystem/store.h"
+#include "filesystem/version.h"
 #include "filesystem/waiting.h"
 #include "manager/base.h"
 #include "manager/opaque.h"
@@ -183,10 +184,13 @@ void kz_end_below(KzOp *op)
         own.done(own.given, kz_status_of(answer), answer.reply.information, kz_me->room, answer.length);
 }
 
-/* Its handle's cleanup took the name, and nobody has the file open. */
+/* Its handle's cleanup took the name, and nobody has the file open; or it did so in its transaction. */
 static bool is_deleted(const KzFile *file)
 {
-    return file->object.Flags & FO_CLEANUP_COMPLETE && file->name && file->name->is_gone && !file->name->file->opens;
+    if (!(file->object.Flags & FO_CLEANUP_COMPLETE) || !file->name)
+        return false;
+    bool is_hidden = file->transaction && kz_is_hidden(file->name, file->transaction);
+    return is_hidden || (file->name->is_gone && !file->name->file->opens);
 }
 
 KzAnswer kz_below_file(const KzOwn *own, KzFile *file, KazdrinEvent asked, const void *bytes, size_t length)

@@ -102,12 +102,15 @@ static void tell(PKTRANSACTION transaction, KzMember *member, ULONG step)
     member->owes = step;
     KzPlace before = kz_enter(KZ_IN_NOTIFY, worker, instance->filter, instance, NULL, NULL);
     kz_call_at(PASSIVE_LEVEL);
+    bool is_inside = kz_enter_routine(instance, NULL, worker);
     unsigned depth = kz_let_driver("transaction notification", function);
     NTSTATUS status = KZ_CALL_DRIVER(function, lent, context, step);
     kz_driver_returned(depth, "transaction notification returns");
     kz_take_objects(lent);
     kz_keep_rest(NULL);
     kz_leave(before);
+    if (is_inside)
+        kz_leave_routine(worker);
     kz_helped(worker);
     kz_clean_up();
     KzMember *still = *kz_member_of(transaction, instance); /* the callback may have ended it */

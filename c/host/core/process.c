@@ -200,6 +200,7 @@ ULONG IoGetRequestorProcessId(PIRP Irp)
     return (ULONG)kz_me->process;
 }
 
+/* The context of legacy filters, which nobody sets. */
 PVOID IoGetFileObjectFilterContext(PFILE_OBJECT FileObject)
 {
     KZ_INSIDE_ALONE();

@@ -9,6 +9,7 @@ BOOLEAN CcIsFileCached(PFILE_OBJECT FileObject)
     return FileObject->SectionObjectPointer && FileObject->SectionObjectPointer->SharedCacheMap;
 }
 
+/* No volume has a paging file. */
 LOGICAL FsRtlIsPagingFile(PFILE_OBJECT FileObject)
 {
     (void)FileObject;
@@ -25,6 +26,7 @@ BOOLEAN MmCanFileBeTruncated(PSECTION_OBJECT_POINTERS SectionPointer, PLARGE_INT
     return !is_viewed && !kz_has_section_past(SectionPointer, size);
 }
 
+/* No image is mapped. */
 BOOLEAN MmFlushImageSection(PSECTION_OBJECT_POINTERS SectionObjectPointer, ULONG FlushType)
 {
     KZ_INSIDE_ALONE();

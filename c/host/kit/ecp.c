@@ -166,6 +166,7 @@ BOOLEAN FltIsEcpAcknowledged(PFLT_FILTER Filter, PVOID EcpContext)
     return parameter_of(EcpContext)->is_acknowledged;
 }
 
+/* A program has no call that gives one along. */
 BOOLEAN FltIsEcpFromUserMode(PFLT_FILTER Filter, PVOID EcpContext)
 {
     (void)Filter, (void)EcpContext;

@@ -15,6 +15,7 @@ typedef struct {
     OB_OPERATION_REGISTRATION operations[];
 } Registration;
 
+/* There is one version. */
 USHORT ObGetFilterVersion(VOID)
 {
     return OB_FLT_REGISTRATION_VERSION;

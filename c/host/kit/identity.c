@@ -67,6 +67,7 @@ BOOLEAN PsIsProtectedProcess(PEPROCESS Process)
     return Process == PsInitialSystemProcess;
 }
 
+/* No process is protected. */
 BOOLEAN PsIsProtectedProcessLight(PEPROCESS Process)
 {
     KZ_INSIDE_ALONE();

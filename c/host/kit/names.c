@@ -287,6 +287,7 @@ VOID FltReleaseFileNameInformation(PFLT_FILE_NAME_INFORMATION FileNameInformatio
     free_named(gone);
 }
 
+/* No name is kept: each is asked for anew. */
 NTSTATUS FltPurgeFileNameInformationCache(PFLT_INSTANCE Instance, PFILE_OBJECT FileObject)
 {
     KZ_INSIDE_ALONE();

@@ -182,6 +182,7 @@ BOOLEAN FltIsOperationSynchronous(PFLT_CALLBACK_DATA CallbackData)
     return !op || !is_irp || !may_wait || CallbackData->Iopb->IrpFlags & IRP_SYNCHRONOUS_PAGING_IO || kz_is_synchronous(op);
 }
 
+/* No process of 32 bits is there. */
 BOOLEAN FltIs32bitProcess(PFLT_CALLBACK_DATA CallbackData)
 {
     (void)CallbackData;

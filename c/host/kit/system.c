@@ -33,18 +33,21 @@ ULONG KeGetCurrentProcessorNumberEx(PPROCESSOR_NUMBER ProcNumber)
     return 0;
 }
 
+/* There is one processor. */
 ULONG KeQueryMaximumProcessorCountEx(USHORT GroupNumber)
 {
     (void)GroupNumber;
     return 1;
 }
 
+/* There is one processor. */
 ULONG KeGetProcessorIndexFromNumber(PPROCESSOR_NUMBER ProcNumber)
 {
     (void)ProcNumber;
     return 0;
 }
 
+/* Each thread has the priority that the kernel gives first. */
 KPRIORITY KeQueryPriorityThread(PKTHREAD Thread)
 {
     (void)Thread;
@@ -65,6 +68,7 @@ SIZE_T IoGetRemainingStackSize(VOID)
     return STACK / 2;
 }
 
+/* The Driver Verifier isn't on. */
 LOGICAL MmIsDriverVerifying(PDRIVER_OBJECT DriverObject)
 {
     (void)DriverObject;

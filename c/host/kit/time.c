@@ -22,6 +22,7 @@ VOID KeQueryTickCount(PLARGE_INTEGER CurrentCount)
     CurrentCount->QuadPart = kz.passed / (LONGLONG)KeQueryTimeIncrement();
 }
 
+/* A tick of the clock, as usual PCs have it. */
 ULONG KeQueryTimeIncrement(VOID)
 {
     return 156250;

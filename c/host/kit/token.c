@@ -287,6 +287,7 @@ BOOLEAN SeTokenIsAdmin(PACCESS_TOKEN Token)
     return is_elevated(Token);
 }
 
+/* No token is restricted. */
 BOOLEAN SeTokenIsRestricted(PACCESS_TOKEN Token)
 {
     (void)Token;

@@ -8,24 +8,28 @@ NTSTATUS EtwRegister(LPCGUID ProviderId, PETWENABLECALLBACK EnableCallback, PVOI
     return STATUS_SUCCESS;
 }
 
+/* Nothing is kept of a provider. */
 NTSTATUS EtwUnregister(REGHANDLE RegHandle)
 {
     (void)RegHandle;
     return STATUS_SUCCESS;
 }
 
+/* No session listens. */
 BOOLEAN EtwEventEnabled(REGHANDLE RegHandle, PCEVENT_DESCRIPTOR EventDescriptor)
 {
     (void)RegHandle, (void)EventDescriptor;
     return FALSE;
 }
 
+/* No session listens. */
 BOOLEAN EtwProviderEnabled(REGHANDLE RegHandle, UCHAR Level, ULONGLONG Keyword)
 {
     (void)RegHandle, (void)Level, (void)Keyword;
     return FALSE;
 }
 
+/* Events are written to nobody. */
 NTSTATUS EtwWrite(REGHANDLE RegHandle, PCEVENT_DESCRIPTOR EventDescriptor, LPCGUID ActivityId, ULONG UserDataCount, PEVENT_DATA_DESCRIPTOR UserData)
 {
     (void)RegHandle, (void)EventDescriptor, (void)ActivityId, (void)UserDataCount, (void)UserData;
@@ -45,6 +49,7 @@ NTSTATUS EtwWriteEx(REGHANDLE RegHandle, PCEVENT_DESCRIPTOR EventDescriptor, ULO
     return EtwWriteTransfer(RegHandle, EventDescriptor, ActivityId, RelatedActivityId, UserDataCount, UserData);
 }
 
+/* Events are written to nobody. */
 NTSTATUS EtwWriteString(REGHANDLE RegHandle, UCHAR Level, ULONGLONG Keyword, LPCGUID ActivityId, PCWSTR String)
 {
     (void)RegHandle, (void)Level, (void)Keyword, (void)ActivityId, (void)String;
@@ -59,6 +64,7 @@ NTSTATUS EtwSetInformation(REGHANDLE RegHandle, EVENT_INFO_CLASS InformationClas
 }
 
 /* ---- What WPP's code calls. Whoever registers isn't asked to trace: so no handle of a session is a right one. */
+/* No session of WMI listens. */
 NTSTATUS IoWMIRegistrationControl(PDEVICE_OBJECT DeviceObject, ULONG Action)
 {
     KZ_INSIDE_ALONE();

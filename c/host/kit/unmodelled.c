@@ -23,6 +23,7 @@ NONE(KZM_OWN_IO, FltNotifyFilterChangeDirectory, PVOID NotifySync, PLIST_ENTRY N
 /* Processes, tokens. */
 NONE(KZM_SECURITY, ZwQueryInformationProcess, HANDLE ProcessHandle, ULONG ProcessInformationClass, PVOID ProcessInformation, ULONG ProcessInformationLength,
      PULONG ReturnLength)
+/* No process of 32 bits is there. */
 BOOLEAN IoIs32bitProcess(PIRP Irp)
 {
     return FALSE;

@@ -80,6 +80,7 @@ PVOID MmMapLockedPagesSpecifyCache(PMDL MemoryDescriptorList, KPROCESSOR_MODE Ac
     return MmGetMdlVirtualAddress(MemoryDescriptorList);
 }
 
+/* Pages have one address, which stays. */
 VOID MmUnmapLockedPages(PVOID BaseAddress, PMDL MemoryDescriptorList)
 {
     (void)BaseAddress, (void)MemoryDescriptorList;

@@ -41,6 +41,12 @@ for requests in "$tests"/requests/*.txt; do
     fi
 done
 
+# Each call that answers a constant has a reason.
+if command -v python3 > /dev/null; then
+    $tests/scripts/constants.py > "$room/constants.out" || { grep 'NO REASON' "$room/constants.out"; false; }
+    tell $? "calls that answer a constant"
+fi
+
 # Tables of what NTFS answers: each row as requests, all by one program.
 if command -v python3 > /dev/null; then
     mkdir "$room/tables"

@@ -51,7 +51,7 @@ static const char *part_of(const KzName *name, const char *directory)
 /* As the kit's file systems have them in order: without case, and then by it. */
 static int compare(const char *a, const char *b)
 {
-    int by_letters = KzStricmp(a, b);
+    int by_letters = kz_compare_texts(a, b, SIZE_MAX);
     return by_letters ? by_letters : strcmp(a, b);
 }
 
@@ -136,19 +136,27 @@ static void begin_scan(KzFile *file, const FLT_PARAMETERS *now, bool is_restart)
     kz_enter_folder(file->volume, file->name->text);
 }
 
+/* The least room that a class takes: one entry with a name of one letter, in whole numbers of 8 bytes. */
+static size_t least_of(const Shape *shape)
+{
+    return (shape->name + sizeof(WCHAR) + 7) & ~(size_t)7;
+}
+
 static NTSTATUS list(KzOp *op, const FLT_PARAMETERS *now, const Shape *shape)
 {
     KzFile *file = op->file;
     uint8_t *buffer = now->DirectoryControl.QueryDirectory.DirectoryBuffer, *before = NULL;
     size_t room = now->DirectoryControl.QueryDirectory.Length, place = 0;
-    bool is_first = !file->scan.pattern[0] || op->opaque->operation_flags & SL_RESTART_SCAN;
+    bool is_first = !file->scan.pattern[0]; /* a restarted scan isn't the first one */
     Entry entry;
+    if (room < least_of(shape))
+        return STATUS_INFO_LENGTH_MISMATCH;
     begin_scan(file, now, op->opaque->operation_flags & SL_RESTART_SCAN);
     while (next_entry(file, &entry)) {
-        size_t size = shape->name + strlen(entry.name) * sizeof(WCHAR);
+        size_t size = shape->name + kz_letters(entry.name) * sizeof(WCHAR);
         if (place + size > room) {
             if (!before)
-                return room < shape->name ? STATUS_INFO_LENGTH_MISMATCH : STATUS_BUFFER_OVERFLOW;
+                return STATUS_BUFFER_OVERFLOW;
             break;
         }
         memset(buffer + place, 0, size);
@@ -165,12 +173,21 @@ static NTSTATUS list(KzOp *op, const FLT_PARAMETERS *now, const Shape *shape)
     return before ? STATUS_SUCCESS : is_first ? STATUS_NO_SUCH_FILE : STATUS_NO_MORE_FILES;
 }
 
+/* Classes of NTFS's own indexes: no other directory has them. */
+static NTSTATUS refuse(int class, size_t room)
+{
+    size_t least = class == FileObjectIdInformation ? sizeof(FILE_OBJECTID_INFORMATION) : class == FileQuotaInformation ? sizeof(FILE_QUOTA_INFORMATION)
+                   : class == FileReparsePointInformation ? sizeof(FILE_REPARSE_POINT_INFORMATION) : 0;
+    return room < least ? STATUS_INFO_LENGTH_MISMATCH : STATUS_INVALID_INFO_CLASS;
+}
+
 NTSTATUS kz_answer_directory(KzOp *op, const FLT_PARAMETERS *now)
 {
     if (!op->file->name || !op->file->is_directory)
         return STATUS_INVALID_PARAMETER;
     if (op->opaque->minor != IRP_MN_QUERY_DIRECTORY)
         return kz_wait_for_change(op);
-    const Shape *shape = shape_of((int)now->DirectoryControl.QueryDirectory.FileInformationClass);
-    return shape ? list(op, now, shape) : STATUS_INVALID_INFO_CLASS;
+    int class = (int)now->DirectoryControl.QueryDirectory.FileInformationClass;
+    const Shape *shape = shape_of(class);
+    return shape ? list(op, now, shape) : refuse(class, now->DirectoryControl.QueryDirectory.Length);
 }

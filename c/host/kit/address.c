@@ -9,7 +9,7 @@ typedef struct {
     const void *at;
 } Row;
 
-/* Those that fltKernel.h declares, and those of ntifs.h, in the order of their names: lists that are made at build. Macros are none. */
+/* Those that fltKernel.h declares, and the other ones, in the order of their names: lists that are made at build. Macros are none. */
 #define ROW(name) {#name, (const void *)(uintptr_t)name},
 #define VARIABLE(name) {#name, &name},
 static const Row rows[] = {

@@ -270,6 +270,15 @@ NTSTATUS RtlDuplicateUnicodeString(ULONG Flags, PCUNICODE_STRING StringIn, PUNIC
     return STATUS_SUCCESS;
 }
 
+/* A copy with a null behind it, in memory of its own. */
+BOOLEAN RtlCreateUnicodeString(PUNICODE_STRING DestinationString, PCWSTR SourceString)
+{
+    KZ_INSIDE_AS_DRIVER();
+    UNICODE_STRING text;
+    RtlInitUnicodeString(&text, SourceString);
+    return NT_SUCCESS(RtlDuplicateUnicodeString(RTL_DUPLICATE_UNICODE_STRING_NULL_TERMINATE | RTL_DUPLICATE_UNICODE_STRING_ALLOCATE_NULL_STRING, &text, DestinationString));
+}
+
 NTSTATUS RtlValidateUnicodeString(ULONG Flags, PCUNICODE_STRING String)
 {
     bool is_valid = !Flags && (!String || (String->Length % 2 == 0 && String->MaximumLength % 2 == 0 && String->Length <= String->MaximumLength &&

@@ -1,5 +1,8 @@
 # Leaves functions of a test out, whose names stand in `cut` with blanks around them, and gives each test of its list a way out: SUITE(..).
-BEGIN { in_list = 0 }
+BEGIN {
+    in_list = 0
+    print "#include \"suite.h\"\n#line 1"
+}
 /^START_TEST/ { in_list = 1 }
 is_cut {
     if (/^\{/) is_body = 1

@@ -13,7 +13,7 @@ wine=$("$own/fetch.sh" wine dlls/ntdll/tests dlls/ntoskrnl.exe/tests include 2> 
 wine_suite() {
     local name=$1 folder=$room/$1/$1 include=$room/$1/include header
     mkdir -p "$folder" "$include/wine" "$include/ddk"
-    cp "$own"/wine/suite.[ch] "$folder"
+    cp "$own"/wine/*.[ch] "$folder"
     for header in winnls.h guiddef.h ip2string.h wine/asm.h wine/test.h wine/heap.h winbase.h winreg.h winternl.h winnt.h winuser.h winioctl.h ddk/wdm.h ddk/ntifs.h io.h ntdll_test.h; do
         echo '#include "suite.h"' > "$include/$header"
     done
@@ -31,7 +31,7 @@ wine_suite() {
     tell $? "$name"
 }
 
-[ $# -gt 0 ] || set -- rtlbitmap rtlstr rtl string large_int error time
+[ $# -gt 0 ] || set -- rtlbitmap rtlstr rtl string large_int error time directory
 for suite in "$@"; do
     wine_suite "$suite"
 done

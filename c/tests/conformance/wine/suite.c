@@ -75,12 +75,67 @@ TEN(0) TEN(01) TEN(02) TEN(03) TEN(04) TEN(05) TEN(06) TEN(07) TEN(010) TEN(011)
 static void (*const places[])(void) = {NAMES(0) NAMES(01) NAMES(02) NAMES(03) NAMES(04) NAMES(05) NAMES(06) NAMES(07) NAMES(010) NAMES(011) NAMES(012) NAMES(013) NAMES(014) NAMES(015)
                                            NAMES(016) NAMES(017)};
 
+/* ---- Memory, and words for messages. */
+PVOID suite_alloc(SIZE_T size)
+{
+    PVOID made = ExAllocatePoolWithTag(NonPagedPool, size ? size : 1, 'tseT');
+    if (made)
+        RtlZeroMemory(made, size);
+    return made;
+}
+
+/* Of a text with a null behind it, which is all that tests make larger. */
+PVOID suite_alloc_again(PVOID block, SIZE_T size)
+{
+    PWCH made = suite_alloc(size);
+    if (made && block)
+        wcscpy(made, block);
+    suite_free(block);
+    return made;
+}
+
+static PVOID heap_again(HANDLE heap, ULONG flags, PVOID block, SIZE_T size)
+{
+    UNREFERENCED_PARAMETER(heap);
+    UNREFERENCED_PARAMETER(flags);
+    return suite_alloc_again(block, size);
+}
+
+static PVOID heap_new(HANDLE heap, ULONG flags, SIZE_T size)
+{
+    UNREFERENCED_PARAMETER(heap);
+    UNREFERENCED_PARAMETER(flags);
+    return suite_alloc(size);
+}
+
+static BOOLEAN heap_end(HANDLE heap, ULONG flags, PVOID block)
+{
+    UNREFERENCED_PARAMETER(heap);
+    UNREFERENCED_PARAMETER(flags);
+    suite_free(block);
+    return TRUE;
+}
+
+void suite_free(PVOID block)
+{
+    if (block)
+        ExFreePool(block);
+}
+
+static NTSTATUS suite_user_key(PUNICODE_STRING path)
+{
+    return suite_unicode(path, "\\Registry\\User\\S-1-5-21-1-2-3-1000") ? STATUS_SUCCESS : STATUS_NO_MEMORY;
+}
+
 /* Those of the compiler's library, which a driver's source has by its headers. */
 static const struct {
     const char *name;
     PVOID routine;
 } library[] = {
-#define ROW(name) {#name, (PVOID)(ULONG_PTR)name},
+#define OWN(name, routine) {#name, (PVOID)(ULONG_PTR)routine},
+#define ROW(name) OWN(name, name)
+    OWN(RtlDosPathNameToNtPathName_U, suite_nt_path) OWN(RtlCreateUnicodeStringFromAsciiz, suite_unicode) OWN(RtlFormatCurrentUserKeyPath, suite_user_key) OWN(NtClose, suite_close)
+    OWN(RtlAllocateHeap, heap_new) OWN(RtlReAllocateHeap, heap_again) OWN(RtlFreeHeap, heap_end)
     ROW(wcstol) ROW(wcschr) ROW(wcsrchr) ROW(_wcslwr) ROW(_wcsupr) ROW(atoi) ROW(atol) ROW(qsort) ROW(bsearch) ROW(_snprintf) ROW(_snwprintf) ROW(tolower) ROW(toupper) ROW(_strnicmp)
     ROW(_wcsicmp) ROW(_wcsnicmp) ROW(wcslen) ROW(wcscmp) ROW(wcscpy) ROW(memchr) ROW(isalnum) ROW(isalpha) ROW(isdigit) ROW(islower) ROW(isprint) ROW(isspace) ROW(isupper) ROW(isxdigit)
     ROW(iscntrl) ROW(isgraph) ROW(ispunct)
@@ -144,21 +199,6 @@ int suite_narrow(ULONG page, ULONG flags, const WCHAR *text, int length, char *r
         return 0;
     }
     return made;
-}
-
-/* ---- Memory, and words for messages. */
-PVOID suite_alloc(SIZE_T size)
-{
-    PVOID made = ExAllocatePoolWithTag(NonPagedPool, size ? size : 1, 'tseT');
-    if (made)
-        RtlZeroMemory(made, size);
-    return made;
-}
-
-void suite_free(PVOID block)
-{
-    if (block)
-        ExFreePool(block);
 }
 
 const char *wine_dbgstr_wn(const WCHAR *text, int length)

@@ -5,7 +5,7 @@
 #ifndef SUITE_OWN
 #include <initguid.h>
 #endif
-#include <ntifs.h>
+#include <fltKernel.h>
 #include <ntstrsafe.h>
 #include <stdarg.h>
 #include <winerror.h>
@@ -104,10 +104,6 @@ int suite_narrow(ULONG page, ULONG flags, const WCHAR *text, int length, char *r
 #define C1_XDIGIT 0x80
 #define C1_ALPHA 0x100
 typedef int CRITICAL_SECTION, *PLDR_DLL_NOTIFICATION_FUNCTION, RTL_TIME_ZONE_INFORMATION, RTL_DYNAMIC_TIME_ZONE_INFORMATION;
-typedef struct _KSYSTEM_TIME {
-    ULONG LowPart;
-    LONG High1Time, High2Time;
-} KSYSTEM_TIME;
 typedef PVOID RTL_HANDLE;
 #define COMPRESSION_FORMAT_NONE 0
 #define COMPRESSION_FORMAT_DEFAULT 1
@@ -125,12 +121,16 @@ extern ULONG suite_error;
 #define GetLastError() suite_error
 #define SetLastError(error) (suite_error = (error))
 
+#define NtRenameKey ZwRenameKey
+
 /* ---- Memory and texts. */
 #define GetProcessHeap() ((HANDLE)1)
 #define HEAP_ZERO_MEMORY 8
 PVOID suite_alloc(SIZE_T size);
 void suite_free(PVOID block);
 #define HeapAlloc(heap, flags, size) suite_alloc(size)
+PVOID suite_alloc_again(PVOID block, SIZE_T size);
+#define HeapReAlloc(heap, flags, block, size) suite_alloc_again(block, size)
 #define HeapFree(heap, flags, block) (suite_free(block), 1)
 #define heap_alloc(size) suite_alloc(size)
 #define heap_alloc_zero(size) suite_alloc(size)
@@ -144,6 +144,11 @@ void suite_free(PVOID block);
 #define lstrcmpiW _wcsicmp
 #define lstrcmpiA _stricmp
 #define lstrcpyW wcscpy
+#define lstrcatW wcscat
+#define lstrcpyA strcpy
+#define lstrcatA strcat
+#define wsprintfA sprintf
+#define wsprintfW swprintf
 const char *wine_dbgstr_w(const WCHAR *text);
 const char *wine_dbgstr_wn(const WCHAR *text, int length);
 const char *wine_dbgstr_a(const char *text);
@@ -156,5 +161,7 @@ const char *wine_dbgstr_longlong(ULONGLONG number);
 #define GetCurrentProcessId() HandleToULong(PsGetCurrentProcessId())
 #define GetCurrentThreadId() HandleToULong(PsGetCurrentThreadId())
 #define CloseHandle(handle) NT_SUCCESS(ZwClose(handle))
+
+#include "files.h"
 
 #endif

@@ -8,7 +8,7 @@ function is_excepted(kind, name, number) {
     return 0
 }
 FNR == NR {
-    if (!/^(wrong|missing) / || $2 != suite) next
+    if (!/^(wrong|missing|told) / || $2 != suite) next
     kinds[++count] = $1
     names[count] = $3
     split($4, lines, "-")
@@ -21,7 +21,7 @@ FNR == NR {
 /^wrong / { failed++ }
 /^missing / && !is_excepted("missing", $2, 0) { print; unmet++ }
 /^CRASH/ { print; unmet++ }
-/^TOLD/ { print; unmet++ }
+/^TOLD/ && !is_excepted("told", $2, 0) { print; unmet++ }
 /^met / { met = $2 + 0; is_whole = 1 }
 END {
     for (at = 1; at <= count; at++)

@@ -133,7 +133,7 @@ static const struct {
     PVOID routine;
 } library[] = {
 #define OWN(name, routine) {#name, (PVOID)(ULONG_PTR)routine},
-#define ROW(name) OWN(name, name)
+#define ROW(name) {#name, (PVOID)(ULONG_PTR)name},
     OWN(RtlDosPathNameToNtPathName_U, suite_nt_path) OWN(RtlCreateUnicodeStringFromAsciiz, suite_unicode) OWN(RtlFormatCurrentUserKeyPath, suite_user_key) OWN(NtClose, suite_close)
     OWN(RtlAllocateHeap, heap_new) OWN(RtlReAllocateHeap, heap_again) OWN(RtlFreeHeap, heap_end)
     ROW(wcstol) ROW(wcschr) ROW(wcsrchr) ROW(_wcslwr) ROW(_wcsupr) ROW(atoi) ROW(atol) ROW(qsort) ROW(bsearch) ROW(_snprintf) ROW(_snwprintf) ROW(tolower) ROW(toupper) ROW(_strnicmp)

@@ -65,6 +65,12 @@ struct _FLT_INSTANCE {
     char name[40], altitude[68];
 };
 
+/* How urgent I/O is, as somebody said. */
+typedef struct {
+    bool is_set;
+    IO_PRIORITY_HINT hint;
+} KzPriority;
+
 /* An open file, as filters see it: the kit's structure first. */
 typedef struct KzFile {
     FILE_OBJECT object;
@@ -100,6 +106,7 @@ typedef struct KzFile {
         unsigned dots;
         bool is_begun;
     } scan;
+    KzPriority priority;
 } KzFile;
 
 /* All of the host, with what its modules keep beside it: that of the client that is inside. */

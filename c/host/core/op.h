@@ -214,6 +214,9 @@ struct KzOp {
         size_t rest;                 /* letters of its name behind that */
     } met;
     FLT_TAG_DATA_BUFFER *tag; /* the same, as callbacks see it */
+    GUID activity;
+    bool has_activity;
+    KzPriority priority;
     struct {
         struct KzOplock *of; /* whose break it waits for; NULL: none's */
         bool is_over, is_apart; /* it waits no more; it isn't its own thread that waits */

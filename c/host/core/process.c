@@ -12,6 +12,7 @@ struct _ETHREAD {
     PETHREAD next;
     PEPROCESS process;
     uint64_t id;
+    KzPriority priority;
 };
 
 struct KzProcessState {
@@ -115,6 +116,11 @@ void kz_end_thread_object(PETHREAD thread)
 {
     thread->header.SignalState = 1;
     kz_scheduler->touch(&thread->header, 0, KZT_GIVES);
+}
+
+KzPriority *kz_priority_of(PETHREAD thread)
+{
+    return &thread->priority;
 }
 
 PETHREAD KzCurrentThread(VOID)

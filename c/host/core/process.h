@@ -22,6 +22,7 @@ extern const struct KzModule kz_process_module;
 PEPROCESS kz_process(uint64_t id);
 PEPROCESS kz_process_there(uint64_t id);
 PETHREAD kz_thread_there(uint64_t id);
+KzPriority *kz_priority_of(PETHREAD thread);
 bool kz_is_process(const void *object);
 bool kz_is_thread(const void *object);
 bool kz_has_thread(uint64_t process, uint64_t id);

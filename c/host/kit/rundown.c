@@ -55,20 +55,31 @@ static bool is_anybody_left(void)
     return kz_has_timer();
 }
 
+/* Until nobody is inside. */
+static void wait_until(bool (*is_over)(void *), void *lock, const char *call, unsigned long long (*inside)(void *))
+{
+    kz_in_order_of(lock);
+    while (!is_over(lock) && kz_let_others())
+        ;
+    kz_wait(is_over, lock, "%s, while %llu are inside", call, inside(lock));
+    kz_in_order_of(lock);
+    if (!is_over(lock) && is_anybody_left())
+        kz_tell(KZM_NOBODY_SETS, call, "%llu are inside, and nobody else runs here: it doesn't wait", inside(lock));
+    else if (!is_over(lock))
+        kz_tell(KZM_WAITS_FOR_EVER, call, "%llu are inside, and nobody is left who would let go: it would wait for ever", inside(lock));
+}
+
+static unsigned long long inside_of(void *reference)
+{
+    return (unsigned long long)((PEX_RUNDOWN_REF)reference)->Count / 2;
+}
+
 VOID ExWaitForRundownProtectionRelease(PEX_RUNDOWN_REF RunRef)
 {
     KZ_CALL();
-    unsigned long long inside = RunRef->Count / 2;
+    kz_in_order_of(RunRef);
     RunRef->Count |= 1;
-    kz_in_order_of(RunRef);
-    while (RunRef->Count > 1 && kz_let_others())
-        ;
-    kz_wait(is_run_down, RunRef, "ExWaitForRundownProtectionRelease, while %llu are inside", inside);
-    kz_in_order_of(RunRef);
-    if (RunRef->Count > 1 && is_anybody_left())
-        kz_tell(KZM_NOBODY_SETS, __func__, "%llu are inside, and nobody else runs here: it doesn't wait", (unsigned long long)(RunRef->Count / 2));
-    else if (RunRef->Count > 1)
-        kz_tell(KZM_WAITS_FOR_EVER, __func__, "%llu are inside, and nobody is left who would let go: it would wait for ever", (unsigned long long)(RunRef->Count / 2));
+    wait_until(is_run_down, RunRef, __func__, inside_of);
 }
 
 VOID ExRundownCompleted(PEX_RUNDOWN_REF RunRef)
@@ -116,4 +127,61 @@ VOID ExWaitForRundownProtectionReleaseCacheAware(PEX_RUNDOWN_REF_CACHE_AWARE Run
 VOID ExRundownCompletedCacheAware(PEX_RUNDOWN_REF_CACHE_AWARE RunRefCacheAware)
 {
     ExRundownCompleted((PEX_RUNDOWN_REF)RunRefCacheAware);
+}
+
+/* ---- Remove locks: one is counted for the device itself, until that is removed. */
+VOID IoInitializeRemoveLockEx(PIO_REMOVE_LOCK Lock, ULONG AllocateTag, ULONG MaxLockedMinutes, ULONG HighWatermark, ULONG RemlockSize)
+{
+    kz_uses_all();
+    (void)AllocateTag, (void)MaxLockedMinutes, (void)HighWatermark, (void)RemlockSize;
+    Lock->Common.Removed = FALSE;
+    Lock->Common.IoCount = 1;
+    KeInitializeEvent(&Lock->Common.RemoveEvent, SynchronizationEvent, FALSE);
+}
+
+NTSTATUS IoAcquireRemoveLockEx(PIO_REMOVE_LOCK RemoveLock, PVOID Tag, PCSTR File, ULONG Line, ULONG RemlockSize)
+{
+    KZ_CALL();
+    (void)Tag, (void)File, (void)Line, (void)RemlockSize;
+    kz_in_order_of(RemoveLock);
+    if (RemoveLock->Common.Removed)
+        return STATUS_DELETE_PENDING;
+    RemoveLock->Common.IoCount++;
+    return STATUS_SUCCESS;
+}
+
+VOID IoReleaseRemoveLockEx(PIO_REMOVE_LOCK RemoveLock, PVOID Tag, ULONG RemlockSize)
+{
+    KZ_CALL();
+    (void)Tag, (void)RemlockSize;
+    kz_in_order_of(RemoveLock);
+    if (RemoveLock->Common.IoCount < (RemoveLock->Common.Removed ? 1 : 2))
+        kz_tell(KZM_LOCK_NOT_HELD, __func__, "the remove lock isn't held");
+    else
+        RemoveLock->Common.IoCount--;
+}
+
+static bool is_removed(void *lock)
+{
+    return ((PIO_REMOVE_LOCK)lock)->Common.IoCount <= 0;
+}
+
+static unsigned long long holders_of(void *lock)
+{
+    return (unsigned long long)((PIO_REMOVE_LOCK)lock)->Common.IoCount;
+}
+
+/* The caller's own, that of the device, and then all others. */
+VOID IoReleaseRemoveLockAndWaitEx(PIO_REMOVE_LOCK RemoveLock, PVOID Tag, ULONG RemlockSize)
+{
+    KZ_CALL();
+    (void)Tag, (void)RemlockSize;
+    kz_in_order_of(RemoveLock);
+    if (RemoveLock->Common.IoCount < 2) {
+        kz_tell(KZM_LOCK_NOT_HELD, __func__, "the remove lock isn't held");
+        return;
+    }
+    RemoveLock->Common.Removed = TRUE;
+    RemoveLock->Common.IoCount -= 2;
+    wait_until(is_removed, RemoveLock, __func__, holders_of);
 }

@@ -80,6 +80,8 @@ void kz_end_cache(KzCache *cache)
     cache->stream->sections.DataSectionObject = cache->stream->sections.SharedCacheMap = NULL;
     while (cache->mapped)
         kz_unmap_view(cache, cache->mapped);
+    for (KzArea *area = cache->areas; area; area = area->next)
+        area->cache = NULL;
     for (size_t page = 0; page < cache->count; page++)
         free(cache->pages[page].bytes);
     free(cache->pages);
@@ -117,7 +119,7 @@ static bool is_mapped(KzOp *op, const void *stream, uint64_t size)
 {
     (void)op;
     const KzStream *one = stream;
-    return one->cache && one->cache->views && kz_pages_of(size) < kz_pages_of(one->size);
+    return one->cache && kz_is_viewed(one->cache, size);
 }
 
 /* The stream was cut: what lies past its end is zeros, should it grow again. */

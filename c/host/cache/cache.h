@@ -30,6 +30,15 @@ typedef struct KzMapped {
     const void *owner;     /* the process */
 } KzMapped;
 
+/* A section of a stream: its pages stay, and so does its file object. */
+typedef struct KzArea {
+    struct KzArea *next;
+    struct KzCache *cache; /* NULL once that has ended */
+    KzFile *file;
+    uint64_t size;
+    bool is_for_scan; /* who has it is asked to let it go, and isn't in the way as others are */
+} KzArea;
+
 typedef struct KzCache {
     struct KzCache *next;
     KzStream *stream;
@@ -38,6 +47,7 @@ typedef struct KzCache {
     size_t count, room;
     uint64_t told;   /* up to where the file system was told that something was written */
     KzMapped *mapped;
+    KzArea *areas;
     unsigned views;  /* and sections */
     unsigned maps;   /* handles that cached, and whose cleanup isn't over */
     unsigned users;  /* who is at it, or waits to be */
@@ -90,7 +100,15 @@ static inline uint64_t kz_pages_of(uint64_t bytes)
     return (bytes + KZ_PAGE - 1) / KZ_PAGE;
 }
 
-/* ---- Views. One that is asked for has its pages, and what a program may do there. */
+/* ---- Sections, and views: one that is asked for has its pages, and what may be done there. */
+KzArea *kz_open_area(KzFile *file, uint64_t size, bool is_for_scan); /* NULL: there is no memory for it */
+void kz_close_area(KzArea *area);
+/* A view of what lies from there on, of that length or with none to the section's end. It begins at a multiple of 64 KB, and ends in the section. */
+NTSTATUS kz_map_area(const KzArea *area, uint64_t from, uint64_t length, const KzMapped *asked, KzMapped **made);
+/* A section or a view of it has gone: on a volume that doesn't cache nothing else needs it. */
+void kz_let_cache_go(KzCache *cache);
+/* Whether a view, or a section that isn't for a scan, has what lies past that size. */
+bool kz_is_viewed(const KzCache *cache, uint64_t size);
 NTSTATUS kz_map_view(KzCache *cache, const KzMapped *asked, KzMapped **made);
 void kz_unmap_view(KzCache *cache, KzMapped *gone);
 /* Of a process that ends. */
@@ -100,6 +118,8 @@ KzMapped *kz_view_at(const void *address, KzCache **cache);
 bool kz_is_in_view(const KzCache *cache, uint64_t number);
 /* The page was changed: views see it. */
 void kz_show_page(const KzCache *cache, const KzCachedPage *page);
+/* It was written to the file itself: pages that are there have it too. */
+void kz_see_write(KzCache *cache, uint64_t offset, const uint8_t *bytes, size_t length);
 /* What is written in a view. */
 NTSTATUS kz_touch_pages(KzCache *cache, uint64_t offset, const uint8_t *bytes, size_t length);
 /* What programs changed in their views comes to the pages. */

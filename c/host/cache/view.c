@@ -3,8 +3,54 @@
 
 #include "core/client.h"
 #include "core/memory.h"
+#include "filesystem/fileobject.h"
 
 #include <stdlib.h>
+
+/* Where a view may begin. */
+enum { GRAIN = 0x10000 };
+
+KzArea *kz_open_area(KzFile *file, uint64_t size, bool is_for_scan)
+{
+    KzCache *cache = kz_stream_cache(file);
+    if (!cache)
+        return NULL;
+    KzArea *made = kz_memory(sizeof *made);
+    *made = (KzArea){.next = cache->areas, .cache = cache, .file = file, .size = size, .is_for_scan = is_for_scan};
+    cache->areas = made;
+    cache->views++;
+    file->users++;
+    return made;
+}
+
+void kz_close_area(KzArea *area)
+{
+    KzCache *cache = area->cache;
+    KzArea **at = cache ? &cache->areas : NULL;
+    while (at && *at != area)
+        at = &(*at)->next;
+    if (at) {
+        *at = area->next;
+        cache->views--;
+        cache->idle = kz.passed;
+    }
+    kz_let_go_file(area->file);
+    free(area);
+}
+
+void kz_let_cache_go(KzCache *cache)
+{
+    if (cache && !kz_is_caching(cache->holder->volume))
+        kz_end_idle_cache(cache);
+}
+
+bool kz_is_viewed(const KzCache *cache, uint64_t size)
+{
+    const KzArea *area = cache->areas;
+    while (area && area->is_for_scan)
+        area = area->next;
+    return (area || cache->mapped) && kz_pages_of(size) < kz_pages_of(cache->stream->size);
+}
 
 NTSTATUS kz_map_view(KzCache *cache, const KzMapped *asked, KzMapped **made)
 {
@@ -24,6 +70,21 @@ NTSTATUS kz_map_view(KzCache *cache, const KzMapped *asked, KzMapped **made)
         memcpy(one->bytes + at * KZ_PAGE, kz_page_of(cache, one->first + at)->bytes, KZ_PAGE);
     *made = one;
     return status;
+}
+
+NTSTATUS kz_map_area(const KzArea *area, uint64_t from, uint64_t length, const KzMapped *asked, KzMapped **made)
+{
+    KzMapped of = *asked;
+    uint64_t rest = from < area->size ? area->size - from : 0;
+    if (from % GRAIN)
+        return STATUS_MAPPED_ALIGNMENT;
+    if (!rest || length > rest)
+        return STATUS_INVALID_VIEW_SIZE;
+    if (!area->cache)
+        return STATUS_FILE_INVALID; /* its volume is gone */
+    of.first = from / KZ_PAGE;
+    of.count = kz_pages_of(from + (length ? length : rest)) - of.first;
+    return kz_map_view(area->cache, &of, made);
 }
 
 void kz_unmap_view(KzCache *cache, KzMapped *gone)
@@ -51,12 +112,15 @@ KzMapped *kz_view_at(const void *address, KzCache **cache)
 
 void kz_unmap_all(const void *owner)
 {
-    for (KzCache *cache = kz_first_cache(); cache; cache = cache->next)
+    for (KzCache *cache = kz_first_cache(), *after; cache; cache = after) {
+        after = cache->next;
         for (KzMapped *one = cache->mapped, *next; one; one = next) {
             next = one->next;
             if (one->owner == owner)
                 kz_unmap_view(cache, one);
         }
+        kz_let_cache_go(cache);
+    }
 }
 
 static bool has_page(const KzMapped *view, uint64_t number)
@@ -91,6 +155,19 @@ static void take_page(KzCache *cache, KzCachedPage *page, const uint8_t *bytes)
     page->is_by_view |= !was_dirty;
     kz_show_page(cache, page);
     cache->stream->valid = cache->stream->valid > end ? cache->stream->valid : end;
+}
+
+void kz_see_write(KzCache *cache, uint64_t offset, const uint8_t *bytes, size_t length)
+{
+    for (size_t part; length; offset += part, bytes += part, length -= part) {
+        size_t from = offset % KZ_PAGE;
+        KzCachedPage *page = kz_page_of(cache, offset / KZ_PAGE);
+        part = KZ_PAGE - from < length ? KZ_PAGE - from : length;
+        if (!page || page->state == KZG_COMING)
+            continue;
+        memcpy(page->bytes + from, bytes, part);
+        kz_show_page(cache, page);
+    }
 }
 
 NTSTATUS kz_touch_pages(KzCache *cache, uint64_t offset, const uint8_t *bytes, size_t length)

@@ -101,6 +101,13 @@ bool kz_is_mapped(KzOp *op, const void *stream, uint64_t size)
     return false;
 }
 
+void kz_object_let_go(const void *object)
+{
+    for EACH (one)
+        if ((*one)->let_go)
+            (*one)->let_go(object);
+}
+
 void kz_stream_is_cut(const void *stream, uint64_t size)
 {
     for EACH (one)

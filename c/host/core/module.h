@@ -21,6 +21,7 @@ typedef struct KzModule {
     void (*memory_goes)(const void *memory, size_t size); /* it is given back: nothing that is in use may lie in it */
     void (*operation_ends)(KzOp *op);
     bool (*is_mapped)(KzOp *op, const void *stream, uint64_t size); /* the file is to be cut to that size: whether something still needs what is behind it */
+    void (*let_go)(const void *object);             /* its last reference has gone, or a handle of it */
     void (*cut)(const void *stream, uint64_t size); /* it was */
     void (*kept)(const void *stream, KzFile *by);   /* what that file's transaction changes of it isn't seen by others: what they wrote is to be in the file */
     void (*replaced)(const void *stream);           /* it has other bytes */
@@ -51,6 +52,7 @@ bool kz_has_any_of(PFLT_FILTER filter);
 void kz_memory_goes(const void *memory, size_t size);
 void kz_operation_ends(KzOp *op);
 bool kz_is_mapped(KzOp *op, const void *stream, uint64_t size);
+void kz_object_let_go(const void *object);
 void kz_stream_is_cut(const void *stream, uint64_t size);
 void kz_stream_is_kept(const void *stream, KzFile *by);
 void kz_stream_is_replaced(const void *stream);

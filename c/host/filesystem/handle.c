@@ -86,10 +86,21 @@ bool kz_drop_handle(HANDLE handle, KzFile **file)
     Handle **at = place_of(handle), *gone = *at;
     if (!gone)
         return false;
+    const void *object = gone->object;
     *at = gone->next;
     *file = gone->file;
     free(gone);
+    if (object)
+        kz_object_let_go(object);
     return true;
+}
+
+bool kz_has_handle(const void *object)
+{
+    const Handle *one = kz.handle->first;
+    while (one && one->object != object)
+        one = one->next;
+    return one != NULL;
 }
 
 HANDLE kz_handle_of_process(uint64_t process)

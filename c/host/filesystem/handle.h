@@ -16,6 +16,7 @@ bool kz_drop_handle(HANDLE handle, KzFile **file);
 /* The next one that a program has; NULL if it has none. */
 HANDLE kz_handle_of_process(uint64_t process);
 PVOID kz_object_of(HANDLE handle);
+bool kz_has_handle(const void *object);
 extern const struct KzModule kz_handle_module;
 
 #endif

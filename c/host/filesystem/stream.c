@@ -64,8 +64,6 @@ KzStream *kz_add_stream(KzRecord *record, const char *name, size_t length)
 
 void kz_free_stream(KzStream *stream)
 {
-    for (KzView *one = stream->views; one; one = one->next)
-        one->stream = NULL;
     take_out(stream);
     kz_cut_bytes(&stream->pages, 0);
     kz_free_oplock(&stream->oplock);
@@ -99,19 +97,6 @@ void kz_name_stream(KzStream *stream, const char *name)
 }
 
 /* ---- Bytes. */
-void kz_write_views(const KzStream *stream, uint64_t offset, const uint8_t *bytes, size_t length)
-{
-    for (KzView *one = stream->views; one; one = one->next)
-        if (offset < one->size)
-            memcpy(one->bytes + offset, bytes, length < one->size - offset ? length : (size_t)(one->size - offset));
-}
-
-void kz_refill_views(const KzStream *stream)
-{
-    for (KzView *one = stream->views; one; one = one->next)
-        kz_get_bytes(&stream->pages, 0, one->bytes, (size_t)one->size);
-}
-
 static KzFolderAnswer read_memory(const KzFacts *facts, const KazdrinData *call, uint8_t *room)
 {
     uint64_t rest = call->offset < facts->size ? facts->size - call->offset : 0;
@@ -156,8 +141,6 @@ static KzFolderAnswer call_memory(const KzFile *file, const KazdrinData *call, c
 KzFolderAnswer kz_call_stream(KzFile *file, const KazdrinData *call, const uint8_t *bytes, uint8_t *room)
 {
     const KzName *name = file->name;
-    if (name && call->operation == KZE_WRITE && !name->stream->cache) /* else the pages are what is seen */
-        kz_write_views(name->stream, call->offset, bytes, call->length);
     if (kz_is_in_folder(file->volume->id))
         return kz_call_in_folder(file, call, bytes);
     return name ? call_memory(file, call, bytes, room) : (KzFolderAnswer){.status = KZS_FILE_NOT_FOUND};

@@ -17,8 +17,6 @@ void kz_free_stream(KzStream *stream);
 void kz_begin_stream(KzStream *stream);
 /* It isn't there any more: nobody finds it by its name, and with the last name that leads to it it is forgotten. */
 void kz_end_stream(KzStream *stream);
-/* It has other bytes, and its views are to show them. */
-void kz_refill_views(const KzStream *stream);
 /* It is called so from now on. */
 void kz_name_stream(KzStream *stream, const char *name);
 
@@ -33,8 +31,6 @@ NTSTATUS kz_resize(KzFile *file, uint64_t size);
 NTSTATUS kz_grow(KzFile *file, uint64_t size);
 NTSTATUS kz_write_stream(KzFile *file, uint64_t offset, const uint8_t *bytes, size_t length);
 /* Its bytes were written, or it has another size: times, notices. */
-/* What was written is seen in its views. */
-void kz_write_views(const KzStream *stream, uint64_t offset, const uint8_t *bytes, size_t length);
 void kz_note_written(const KzFile *file, uint64_t offset, size_t length);
 void kz_note_size(const KzFile *file, uint64_t size);
 

@@ -36,14 +36,6 @@ typedef struct {
     size_t count, room;
 } KzPages;
 
-/* Memory in which a stream's bytes are seen, as far as it reaches: what is written to it is written there too. */
-typedef struct KzView {
-    struct KzView *next;
-    struct KzStream *stream; /* NULL once it is gone */
-    uint8_t *bytes;
-    uint64_t size;
-} KzView;
-
 /* Bytes of a file, with their name and sharing. NTFS's SCB. */
 typedef struct KzStream {
     struct KzStream *next;
@@ -62,7 +54,6 @@ typedef struct KzStream {
     SECTION_OBJECT_POINTERS sections;
     SHARE_ACCESS share;
     KzPages pages; /* of a volume in memory */
-    KzView *views;
 } KzStream;
 
 /* A file or a directory, whatever it is called. NTFS's FCB. */

@@ -268,7 +268,6 @@ static void put_back_stream(Old *old)
     stream->size = old->kept.size;
     stream->allocation = old->kept.allocation;
     stream->valid = old->kept.valid;
-    kz_refill_views(stream);
 }
 
 /* The first stream that the transaction has made; NULL: none is left. */

@@ -22,8 +22,7 @@ BOOLEAN MmCanFileBeTruncated(PSECTION_OBJECT_POINTERS SectionPointer, PLARGE_INT
     KZ_CALL();
     uint64_t size = NewFileSize ? (uint64_t)NewFileSize->QuadPart : 0;
     const KzCache *cache = kz_cache_with(SectionPointer);
-    bool is_viewed = cache && cache->views && kz_pages_of(size) < kz_pages_of(cache->stream->size);
-    return !is_viewed && !kz_has_section_past(SectionPointer, size);
+    return !(cache && kz_is_viewed(cache, size)) && !kz_has_section_past(SectionPointer, size);
 }
 
 /* No image is mapped. */

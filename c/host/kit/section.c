@@ -1,4 +1,4 @@
-/* Sections of a file for a scan: memory with what the file holds, read below the filter, and with what is written to it later. Whoever is about to cut the file has the filter told first. */
+/* Sections of a file for a scan: their views are of the stream's pages, which are read from the top of the stack as they are mapped. Whoever is about to cut the file has the filter told first. */
 #include "kit/section.h"
 
 #include "core/client.h"
@@ -11,14 +11,12 @@
 #include "core/told.h"
 #include "filesystem/fileobject.h"
 #include "filesystem/handle.h"
-#include "filesystem/tree.h"
 #include "manager/below.h"
 #include "manager/context.h"
 #include "manager/hand.h"
 #include "manager/instance.h"
 #include "manager/reference.h"
 #include "kit/information.h"
-#include "kit/io.h"
 
 #include <stdlib.h>
 
@@ -27,10 +25,7 @@ typedef struct Section {
     PFLT_CONTEXT context; /* NULL once it was closed */
     PFLT_FILTER filter;
     PFLT_INSTANCE instance;
-    PFILE_OBJECT file;
-    uint8_t *bytes;
-    uint64_t size;
-    KzView view; /* the same, as the file system has it */
+    KzArea *area;
 } Section;
 
 struct KzSectionState {
@@ -43,11 +38,15 @@ NTSTATUS FltRegisterForDataScan(PFLT_INSTANCE Instance)
     return kz_may_use(__func__, Instance) ? STATUS_SUCCESS : STATUS_INVALID_PARAMETER;
 }
 
-static NTSTATUS read_all(PFLT_INSTANCE instance, PFILE_OBJECT object, Section *made, const char *call)
+static NTSTATUS open_area(PFLT_INSTANCE instance, PFILE_OBJECT object, KzArea **made, const char *call)
 {
     FILE_STANDARD_INFORMATION standard;
-    LARGE_INTEGER offset = {.QuadPart = 0};
-    ULONG used, done = 0;
+    ULONG used;
+    KzFile *file = kz_file_with(object);
+    if (!file || !file->name)
+        return STATUS_INVALID_FILE_FOR_SECTION;
+    if (kz_refuses(KZ_CHOICE_POOL, call))
+        return STATUS_INSUFFICIENT_RESOURCES;
     NTSTATUS status = kz_query_below(instance, object, &standard, sizeof standard, FileStandardInformation, &used, call);
     if (!NT_SUCCESS(status))
         return status;
@@ -55,27 +54,8 @@ static NTSTATUS read_all(PFLT_INSTANCE instance, PFILE_OBJECT object, Section *m
         return STATUS_END_OF_FILE;
     if (standard.EndOfFile.QuadPart > (LONGLONG)KZ_LARGEST)
         return STATUS_INSUFFICIENT_RESOURCES;
-    made->size = (uint64_t)standard.EndOfFile.QuadPart;
-    made->bytes = kz_memory(made->size);
-    return kz_transfer(&(KzTransfer){instance, object, &offset, (ULONG)made->size, made->bytes, FLTFL_IO_OPERATION_DO_NOT_UPDATE_BYTE_OFFSET, &done, NULL, NULL, call, NULL}, false);
-}
-
-static void show(Section *made)
-{
-    const KzFile *file = kz_file_with(made->file);
-    KzStream *stream = file && file->name ? file->name->stream : NULL;
-    made->view = (KzView){stream ? stream->views : NULL, stream, made->bytes, made->size};
-    if (stream)
-        stream->views = &made->view;
-}
-
-static void hide(Section *gone)
-{
-    KzView **at = gone->view.stream ? &gone->view.stream->views : NULL;
-    while (at && *at != &gone->view)
-        at = &(*at)->next;
-    if (at)
-        *at = gone->view.next;
+    *made = kz_open_area(file, (uint64_t)standard.EndOfFile.QuadPart, true);
+    return *made ? STATUS_SUCCESS : STATUS_INSUFFICIENT_RESOURCES;
 }
 
 NTSTATUS FltCreateSectionForDataScan(PFLT_INSTANCE Instance, PFILE_OBJECT FileObject, PFLT_CONTEXT SectionContext, ACCESS_MASK DesiredAccess,
@@ -84,26 +64,43 @@ NTSTATUS FltCreateSectionForDataScan(PFLT_INSTANCE Instance, PFILE_OBJECT FileOb
 {
     KZ_CALL();
     (void)DesiredAccess, (void)MaximumSize, (void)SectionPageProtection, (void)AllocationAttributes, (void)Flags;
+    KzArea *area;
     *SectionHandle = NULL;
     *SectionObject = NULL;
-    Section *made = kz_memory(sizeof *made);
-    *made = (Section){.context = SectionContext, .filter = kz_me->place.filter, .instance = Instance, .file = FileObject};
-    NTSTATUS status = kz_refuses(KZ_CHOICE_POOL, __func__) ? STATUS_INSUFFICIENT_RESOURCES : read_all(Instance, FileObject, made, __func__);
-    if (!NT_SUCCESS(status)) {
-        free(made->bytes);
-        free(made);
+    NTSTATUS status = open_area(Instance, FileObject, &area, __func__);
+    if (!NT_SUCCESS(status))
         return status;
-    }
-    show(made);
-    made->next = kz.section->first;
+    Section *made = kz_memory(sizeof *made);
+    *made = (Section){.next = kz.section->first, .context = SectionContext, .filter = kz_me->place.filter, .instance = Instance, .area = area};
     kz.section->first = made;
     FltReferenceContext(SectionContext); /* the section has it, until it is closed */
     *SectionHandle = kz_open_handle(made, "a section", ObjectAttributes ? ObjectAttributes->Attributes : 0);
     *SectionObject = made;
     kz_take_object(made, false, __func__);
     if (SectionFileSize)
-        SectionFileSize->QuadPart = (LONGLONG)made->size;
+        SectionFileSize->QuadPart = (LONGLONG)area->size;
     return STATUS_SUCCESS;
+}
+
+/* It goes once nothing leads to it any more; its views stay. */
+static void end_if_free(Section *gone)
+{
+    Section **at = &kz.section->first;
+    if (gone->context || kz_is_referenced(gone) || kz_has_handle(gone))
+        return;
+    while (*at != gone)
+        at = &(*at)->next;
+    *at = gone->next;
+    KzCache *cache = gone->area->cache;
+    KzFile *file = gone->area->file;
+    file->users++; /* until it is looked at */
+    kz_close_area(gone->area);
+    free(gone);
+    kz_let_cache_go(cache);
+    bool is_last = file->users == 1;
+    kz_let_go_file(file);
+    if (!is_last)
+        kz_close_if_due(file);
 }
 
 static Section *with_context(PFLT_CONTEXT context)
@@ -122,6 +119,7 @@ NTSTATUS FltCloseSectionForDataScan(PFLT_CONTEXT SectionContext)
         return STATUS_NOT_FOUND;
     one->context = NULL;
     FltReleaseContext(SectionContext);
+    end_if_free(one);
     return STATUS_SUCCESS;
 }
 
@@ -130,7 +128,7 @@ NTSTATUS FltGetSectionContext(PFLT_INSTANCE Instance, PFILE_OBJECT FileObject, P
     KZ_CALL();
     (void)Instance;
     Section *one = kz.section->first;
-    while (one && !(one->context && one->file == FileObject && one->filter == kz_me->place.filter))
+    while (one && !(one->context && &one->area->file->object == FileObject && one->filter == kz_me->place.filter))
         one = one->next;
     *Context = one ? one->context : NULL;
     if (!one)
@@ -158,34 +156,32 @@ static void notify(const Section *one, KzOp *op)
     kz_clean_up();
 }
 
-static Section *in_the_way(const void *stream, uint64_t size)
+static Section *in_the_way(const SECTION_OBJECT_POINTERS *sections, uint64_t size)
 {
     Section *one = kz.section->first;
-    while (one && !(one->context && one->view.stream == stream && one->size > size))
+    while (one && !(one->context && one->area->cache && &one->area->cache->stream->sections == sections && one->area->size > size))
         one = one->next;
     return one;
 }
 
 bool kz_has_section_past(const SECTION_OBJECT_POINTERS *sections, uint64_t size)
 {
-    const Section *one = kz.section->first;
-    while (one && !(one->context && one->view.stream && &one->view.stream->sections == sections && one->size > size))
-        one = one->next;
-    return one != NULL;
+    return in_the_way(sections, size);
 }
 
 static bool is_mapped(KzOp *op, const void *stream, uint64_t size)
 {
-    Section *one = in_the_way(stream, size), *last = NULL;
+    const SECTION_OBJECT_POINTERS *sections = &((const KzStream *)stream)->sections;
+    Section *one = in_the_way(sections, size), *last = NULL;
     while (one && one != last && one->filter->registration.SectionNotificationCallback) {
         notify(one, op);
         last = one;
-        one = in_the_way(stream, size);
+        one = in_the_way(sections, size);
     }
     return one != NULL;
 }
 
-/* ---- Views. A section's memory stays to the end of a run. */
+/* ---- Views. */
 static Section *section_of(PVOID object)
 {
     Section *one = kz.section->first;
@@ -194,37 +190,41 @@ static Section *section_of(PVOID object)
     return one;
 }
 
-void *kz_section_bytes(HANDLE handle, uint64_t offset, size_t *size)
+const KzArea *kz_area_of(HANDLE handle)
 {
-    Section *one = section_of(kz_object_of(handle));
-    if (!one || offset >= one->size)
-        return NULL;
-    *size = (size_t)(one->size - offset);
-    return one->bytes + offset;
+    const Section *one = section_of(kz_object_of(handle));
+    return one ? one->area : NULL;
 }
 
 NTSTATUS ZwMapViewOfSection(HANDLE SectionHandle, HANDLE ProcessHandle, PVOID *BaseAddress, ULONG_PTR ZeroBits, SIZE_T CommitSize, PLARGE_INTEGER SectionOffset,
                             PSIZE_T ViewSize, ULONG InheritDisposition, ULONG AllocationType, ULONG Win32Protect)
 {
     KZ_CALL();
-    (void)ProcessHandle, (void)ZeroBits, (void)CommitSize, (void)InheritDisposition, (void)AllocationType, (void)Win32Protect;
-    size_t size;
-    void *bytes = kz_section_bytes(SectionHandle, SectionOffset ? (uint64_t)SectionOffset->QuadPart : 0, &size);
-    if (!bytes)
+    (void)ProcessHandle, (void)ZeroBits, (void)CommitSize, (void)InheritDisposition, (void)AllocationType;
+    const KzMapped asked = {.is_written = Win32Protect == PAGE_READWRITE || Win32Protect == PAGE_EXECUTE_READWRITE, .is_copy = Win32Protect == PAGE_WRITECOPY};
+    const KzArea *area = kz_area_of(SectionHandle);
+    KzMapped *made = NULL;
+    if (!area)
         return STATUS_INVALID_HANDLE;
-    *BaseAddress = bytes;
-    *ViewSize = *ViewSize && *ViewSize < size ? *ViewSize : size;
-    return STATUS_SUCCESS;
+    NTSTATUS status = kz_map_area(area, SectionOffset ? (uint64_t)SectionOffset->QuadPart : 0, *ViewSize, &asked, &made);
+    if (!NT_SUCCESS(status))
+        return status; /* in Windows whoever touches it meets STATUS_IN_PAGE_ERROR */
+    *BaseAddress = made->bytes;
+    *ViewSize = made->count * KZ_PAGE;
+    return status;
 }
 
 NTSTATUS ZwUnmapViewOfSection(HANDLE ProcessHandle, PVOID BaseAddress)
 {
     KZ_CALL();
     (void)ProcessHandle;
-    for (const Section *one = kz.section->first; one; one = one->next)
-        if ((uint8_t *)BaseAddress >= one->bytes && (uint8_t *)BaseAddress < one->bytes + one->size)
-            return STATUS_SUCCESS;
-    return STATUS_NOT_MAPPED_VIEW;
+    KzCache *cache;
+    KzMapped *view = kz_view_at(BaseAddress, &cache);
+    if (!view)
+        return STATUS_NOT_MAPPED_VIEW;
+    kz_unmap_view(cache, view);
+    kz_let_cache_go(cache);
+    return STATUS_SUCCESS;
 }
 
 bool kz_is_section(PVOID object)
@@ -232,15 +232,21 @@ bool kz_is_section(PVOID object)
     return section_of(object) != NULL;
 }
 
+static void let_go(const void *object)
+{
+    Section *one = section_of((PVOID)object);
+    if (one)
+        end_if_free(one);
+}
+
 static void free_sections(void)
 {
     while (kz.section->first) {
         Section *one = kz.section->first;
         kz.section->first = one->next;
-        hide(one);
-        free(one->bytes);
+        free(one->area);
         free(one);
     }
 }
 
-const KzModule kz_section_module = {KZ_STATE(section), .free = free_sections, .is_mapped = is_mapped};
+const KzModule kz_section_module = {KZ_STATE(section), .free = free_sections, .is_mapped = is_mapped, .let_go = let_go};

@@ -1,10 +1,12 @@
-/* Sections of a file for a scan: what the file holds as the section is made, read below the filter. */
+/* Sections of a file for a scan: views of the stream's own pages. */
 #ifndef KZ_KIT_SECTION_H
 #define KZ_KIT_SECTION_H
 
 #include "host.h"
+#include "cache/cache.h"
 
-void *kz_section_bytes(HANDLE handle, uint64_t offset, size_t *size);
+/* What a handle's section is of; NULL: it is no such handle. */
+const KzArea *kz_area_of(HANDLE handle);
 bool kz_is_section(PVOID object);
 /* Whether one has what lies past that size, of the stream with these pointers. */
 bool kz_has_section_past(const SECTION_OBJECT_POINTERS *sections, uint64_t size);

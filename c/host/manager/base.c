@@ -79,6 +79,8 @@ static void call_bytes(KzOp *op, const KazdrinData *call, uint8_t worker)
     if (call->operation == KZE_WRITE)
         kazdrin_lent(&kz.manager, &(KazdrinEvent){.worker = worker}, &(KazdrinData){0}, kz_me->room, sizeof kz_me->room);
     KzFolderAnswer answer = kz_call_stream(op->file, call, kz_me->room, kz_me->room);
+    if (call->operation == KZE_WRITE && answer.status == KZS_OK)
+        kz_show_write(op, call, kz_me->room);
     KazdrinEvent returned = {.worker = worker, .status = answer.status, .offset = answer.information, .flag = answer.length > 0};
     kazdrin_based(&kz.manager, &returned, answer.length > 0 ? answer.bytes : (const uint8_t *)"", answer.length);
     if (!kz_is_for_cache(op)) /* the times are those of the write that changed the page */
@@ -166,8 +168,6 @@ static void use_stream(const KzName *name, KzUse how)
 {
     kz_scheduler->uses(&name->stream->size, how);
     kz_scheduler->uses(name->file, how);
-    if (name->stream->views)
-        kz_uses_all();
 }
 
 /* A create makes or finds its file among the volume's. */

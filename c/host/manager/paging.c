@@ -33,18 +33,18 @@ NTSTATUS kz_ask_for_cache(KzFile *file, const KzAsked *asked)
     return kz_status_of(kz_below(&own, file, kz_opaque_event(asked, (KazdrinEvent){.event = KZE_OTHER, .handle = file->handle}), "", 0));
 }
 
-/* ---- By pages. */
+/* ---- By pages. On a volume that doesn't cache those of a section. */
 static bool has_pages(const KzOp *op)
 {
     const KzFile *file = op->file;
-    return kz_is_caching(file->volume) && file->name && !file->is_volume && !kz_is_directory(file->name);
+    return file->name && !file->is_volume && !kz_is_directory(file->name) && (kz_is_caching(file->volume) || kz_cache_of(file));
 }
 
 bool kz_goes_by_pages(const KzOp *op)
 {
     bool is_data = op->event == KZE_READ || op->event == KZE_WRITE;
     bool is_uncached = op->own.irp_flags & (IRP_NOCACHE | IRP_PAGING_IO) || op->file->object.Flags & FO_NO_INTERMEDIATE_BUFFERING;
-    return is_data && !is_uncached && has_pages(op);
+    return is_data && !is_uncached && kz_is_caching(op->file->volume) && has_pages(op);
 }
 
 static PIRP top_of(const KzOp *op)
@@ -108,7 +108,6 @@ static NTSTATUS write_locked(KzOp *op, KzCache *cache, const KazdrinData *call, 
         kz_resize(file, size);
     if (!NT_SUCCESS(status))
         return status;
-    kz_write_views(cache->stream, call->offset, bytes, call->length);
     kz_journal_write(file->name, call->offset, call->length, size);
     kz_note_written(file, call->offset, call->length);
     return file->object.Flags & FO_WRITE_THROUGH ? kz_flush_cache(cache, call->offset, call->length) : status;
@@ -154,7 +153,7 @@ static NTSTATUS touch(KzCache *cache, uint64_t offset, uint8_t *bytes, size_t le
 
 bool kz_touch(KzFile *file, uint64_t offset, uint8_t *bytes, size_t *length, bool is_written, NTSTATUS *status)
 {
-    bool has = kz_is_caching(file->volume) && file->name && !file->is_volume && !kz_is_directory(file->name);
+    bool has = (kz_is_caching(file->volume) || kz_cache_of(file)) && file->name && !file->is_volume && !kz_is_directory(file->name);
     KzCache *cache = has ? kz_stream_cache(file) : NULL;
     if (!cache)
         return false;
@@ -170,7 +169,7 @@ static NTSTATUS close_gap(KzFile *file, uint64_t offset)
 {
     KzStream *stream = file->name->stream;
     uint64_t valid = stream->valid, size = stream->size;
-    if (offset <= valid)
+    if (offset <= valid || !kz_is_caching(file->volume))
         return STATUS_SUCCESS;
     NTSTATUS status = offset > size ? kz_resize(file, offset) : STATUS_SUCCESS;
     KzCache *cache = NT_SUCCESS(status) ? kz_stream_cache(file) : NULL;
@@ -229,6 +228,13 @@ NTSTATUS kz_begin_uncached(KzOp *op, const KazdrinData *call)
     return status;
 }
 
+void kz_show_write(const KzOp *op, const KazdrinData *call, const uint8_t *bytes)
+{
+    KzCache *cache = kz_is_caching(op->file->volume) || !has_pages(op) || kz_is_for_cache(op) ? NULL : kz_cache_of(op->file);
+    if (cache)
+        kz_see_write(cache, call->offset, bytes, call->length);
+}
+
 void kz_end_uncached(KzOp *op, const KazdrinData *call)
 {
     KzCache *cache = has_pages(op) ? kz_cache_of(op->file) : NULL;
@@ -239,4 +245,5 @@ void kz_end_uncached(KzOp *op, const KazdrinData *call)
         cache->told = cache->told > call->offset + call->length ? cache->told : call->offset + call->length;
     }
     kz_unlock_stream(cache, kz_me);
+    kz_let_cache_go(cache);
 }

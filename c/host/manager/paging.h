@@ -21,6 +21,8 @@ NTSTATUS kz_call_pages(KzOp *op, const KazdrinData *call, size_t *length);
 /* Before a call that goes to the file itself, and after it: pages are written and go, and nobody else is at the stream. */
 NTSTATUS kz_begin_uncached(KzOp *op, const KazdrinData *call);
 void kz_end_uncached(KzOp *op, const KazdrinData *call);
+/* What was written to a file of a volume that doesn't cache is seen in its sections. */
+void kz_show_write(const KzOp *op, const KazdrinData *call, const uint8_t *bytes);
 /* The same around a control code that writes zeros. */
 NTSTATUS kz_begin_control(KzFile *file);
 void kz_note_zeros(KzFile *file);

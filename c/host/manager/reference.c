@@ -79,6 +79,7 @@ LONG_PTR kz_let_go_object(PVOID object, const char *call)
         *at = gone->next;
         free(gone);
         let_go_of_file(object);
+        kz_object_let_go(object);
     }
     return left;
 }

@@ -12,8 +12,9 @@
 #include "user/file.h"
 #include "user/object.h"
 
-enum { READ_ONLY = PAGE_READONLY, GRAIN = 0x10000, WRITES = 2, COPIES = 1 };
-enum { ERROR_ACCESS = 5, ERROR_NONE = 50, ERROR_PARAMETER = 87, ERROR_EMPTY = 1006, ERROR_ALIGNMENT = 1132 };
+enum { WRITES = 2, COPIES = 1 };
+enum { ERROR_ACCESS = 5, ERROR_NONE = 50, ERROR_PARAMETER = 87, ERROR_ADDRESS = 487, ERROR_EMPTY = 1006 };
+#define SECTION_FLAGS 0xff000000u
 
 /* The file system acquires the file meanwhile, which a filter may refuse. */
 static NTSTATUS ask_section(KzFile *file, UCHAR major, ULONG protection)
@@ -34,24 +35,20 @@ static NTSTATUS reach(KzFile *file, uint64_t size)
 
 static KzObject *new_section(KzFile *file, uint64_t size, ULONG protection)
 {
-    KzCache *cache = kz_stream_cache(file);
-    if (!cache)
+    KzArea *area = kz_open_area(file, size, false);
+    if (!area)
         return NULL;
     KzObject *made = kz_new_object(KZU_SECTION);
-    made->file = file;
-    made->cache = cache;
-    made->size = size;
+    made->area = area;
     made->may_write = protection == PAGE_READWRITE || protection == PAGE_EXECUTE_READWRITE;
-    file->users++;
-    cache->views++;
     return made;
 }
 
 void kz_close_section(KzObject *section)
 {
-    section->cache->views--;
-    section->cache->idle = kz.passed;
-    kz_let_go_file(section->file);
+    KzCache *cache = section->area->cache;
+    kz_close_area(section->area);
+    kz_let_cache_go(cache);
 }
 
 /* Why there is no section of it; 0 if there is one. */
@@ -62,12 +59,7 @@ static uint32_t refuse(const KzFile *file, ULONG protection, uint64_t size)
         return ERROR_ACCESS;
     if (!(file->access & FILE_READ_DATA) || (writes && !(file->access & FILE_WRITE_DATA)))
         return ERROR_ACCESS;
-    if (!size || size > KZ_LARGEST)
-        return size ? ERROR_PARAMETER : ERROR_EMPTY;
-    if (kz_is_caching(file->volume))
-        return 0;
-    kz_tell(KZM_SECTION, "CreateFileMapping", "a file of a volume that doesn't cache has no section: it answers ERROR_NOT_SUPPORTED");
-    return ERROR_NONE;
+    return !size ? ERROR_EMPTY : size > KZ_LARGEST ? ERROR_PARAMETER : 0;
 }
 
 static KzObject *make(KzFile *file, ULONG protection, uint64_t size)
@@ -96,10 +88,12 @@ static void *make_section(void *handle, uint32_t protection, uint32_t high, uint
     {
         KZ_CALL_OF("CreateFileMapping");
         const KzObject *file = kz_object(handle, KZU_FILE);
-        if (has_name || protection & 0xff000000 || protection == PAGE_WRITECOPY)
-            kz_failed(ERROR_NONE); /* neither images nor sections that others find */
-        else if (file)
-            made = make(file->file, protection, (uint64_t)high << 32 | low);
+        bool is_known = !has_name && !(protection & SECTION_FLAGS & ~(uint32_t)SEC_COMMIT);
+        if (!is_known) {
+            kz_tell(KZM_SECTION, "CreateFileMapping", "of an image, with a name or with flags but SEC_COMMIT: it answers ERROR_NOT_SUPPORTED");
+            kz_failed(ERROR_NONE);
+        } else if (file)
+            made = make(file->file, protection & ~SECTION_FLAGS, (uint64_t)high << 32 | low);
     }
     kz_go_on_or_end();
     return made;
@@ -120,38 +114,26 @@ void *CreateFileMappingW(void *file, const void *attributes, uint32_t protection
 }
 
 /* ---- Views. */
-static void *map(const KzObject *section, uint32_t access, uint64_t from, uint64_t size)
+static void *map(const KzArea *area, bool may_write, uint32_t access, uint64_t from, uint64_t size)
 {
-    uint64_t length = size ? size : section->size > from ? section->size - from : 0;
-    bool writes = access & WRITES && !(access == COPIES);
-    uint32_t error = from % GRAIN                          ? ERROR_ALIGNMENT
-                     : !length || from + length > section->size ? ERROR_ACCESS
-                     : writes && !section->may_write            ? ERROR_ACCESS
-                                                                : 0;
-    KzMapped *made = NULL;
-    if (error) {
-        kz_failed(error);
-        return NULL;
-    }
-    const KzMapped asked = {.first = from / KZ_PAGE, .count = kz_pages_of(from + length) - from / KZ_PAGE, .is_written = writes, .is_copy = access == COPIES, .owner = kz_user()->process};
-    NTSTATUS status = kz_map_view(section->cache, &asked, &made);
+    KzMapped asked = {.is_written = access & WRITES && access != COPIES, .is_copy = access == COPIES, .owner = kz_user()->process}, *made = NULL;
+    NTSTATUS status = asked.is_written && !may_write ? STATUS_ACCESS_DENIED : kz_map_area(area, from, size, &asked, &made);
     if (!NT_SUCCESS(status))
         kz_failed(kz_win32_of(status)); /* in Windows whoever touches it meets STATUS_IN_PAGE_ERROR */
     return made ? made->bytes : NULL;
 }
 
-/* Also of a section whose handle a filter opened for the program. */
+/* Also of a section whose handle a filter opened for the program, to be read. */
 void *MapViewOfFile(void *section, uint32_t access, uint32_t high, uint32_t low, size_t size);
 void *MapViewOfFile(void *section, uint32_t access, uint32_t high, uint32_t low, size_t size)
 {
     void *bytes = NULL;
     {
         KZ_CALL();
-        size_t there;
-        uint64_t from = (uint64_t)high << 32 | low;
-        bytes = kz_section_bytes(section, from, &there);
-        const KzObject *own = bytes ? NULL : kz_object(section, KZU_SECTION);
-        bytes = own ? map(own, access, from, size) : bytes;
+        const KzArea *area = kz_area_of(section);
+        const KzObject *own = area ? NULL : kz_object(section, KZU_SECTION);
+        if (area || own)
+            bytes = map(own ? own->area : area, own && own->may_write, access, (uint64_t)high << 32 | low, size);
     }
     kz_go_on_or_end();
     return bytes;
@@ -163,9 +145,13 @@ int UnmapViewOfFile(const void *address)
     KZ_CALL();
     KzCache *cache;
     KzMapped *view = kz_view_at(address, &cache);
-    if (view)
+    if (view) {
         kz_unmap_view(cache, view);
-    return 1;
+        kz_let_cache_go(cache);
+    } else {
+        kz_failed(ERROR_ADDRESS);
+    }
+    return view != NULL;
 }
 
 int FlushViewOfFile(const void *address, size_t size);

@@ -93,8 +93,7 @@ struct KzObject {
     bool is_append;
     struct KzFound *found;
     struct KzSearch *search;
-    struct KzCache *cache; /* of a section's file */
-    uint64_t size;         /* and how large it is */
+    struct KzArea *area; /* a section's */
     bool may_write;
     HANDLE system;   /* a key's, of the kernel */
     PKTRANSACTION transaction;

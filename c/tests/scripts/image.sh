@@ -5,6 +5,7 @@
 set -u
 . "$(dirname "$0")/stored.sh"
 . "$(dirname "$0")/tally.sh" image
+. "$(dirname "$0")/layer.sh"
 
 [ "$(uname -m)" = x86_64 ] || {
     echo "image: not tried, since binaries of drivers run on x86-64 alone"
@@ -153,7 +154,7 @@ for kind in "$@"; do
     mkdir -p "$room/$kind"
     # The first one makes the headers and the libraries of all.
     made c/samples/nullfilter.c
-    rows made c/samples/*.c "$tests"/drivers/{majors,asker}.c "$tests"/misuse/{first,mistakes,kept}.c "$tests"/image/*.c "$tests"/image/*.cpp "$tests"/image/*.rs
+    rows made c/samples/*.c "$tests"/drivers/{majors,asker,layer}.c "$tests"/misuse/{first,mistakes,kept}.c "$tests"/image/*.c "$tests"/image/*.cpp "$tests"/image/*.rs
     names=()
     for name in "${samples[@]}" first mistakes kept; do
         [ ! -f "$room/$kind/$name.sys" ] || names+=("$name")
@@ -231,6 +232,8 @@ for kind in "$@"; do
     LEVEL=-O2 "$tests/image/sys.sh" "$kind" "$room/kit-$kind" "$room/$kind/jumps.sys" $tests/image/jumps.c
     { "$RUN" "$room/$kind/jumps.sys" $tests/image/jumps.txt; echo "status $?"; } 2>&1 | diff $tests/image/jumps.out -
     tell $? "jumps to the kit by $kind"
+    run=("$RUN" "$room/$kind/layer.sys") explore=("$EXPLORE" "$room/$kind/layer.sys")
+    layer_ways " by $kind" --bound 1
     # What isn't here is said as the driver is loaded.
     "$RUN" "$room/$kind/inlines.sys" $tests/image/inlines.txt 2>&1 > "$room/out" | sed 's/.*inlines.sys: //' | LC_ALL=C sort > "$room/missing"
     printf '%s\n' "HeadlessDispatch of ntoskrnl.exe isn't in this kit: a call of it is reported, and answers STATUS_NOT_SUPPORTED" \

@@ -1,6 +1,7 @@
 #!/usr/bin/env bash
 # c/tests/scripts/serve.sh [PART ..] : the server of drivers. It is built of the drivers in c/tests/serve/drivers with the address and undefined sanitizers. The same frames must bring the
-# same bytes as from fltd, and the mount's tests pass above it: the parts calls, model, deletions, held, ends and late (creates and deletions that are held), or those that are named.
+# same bytes as from fltd, and the mount's tests pass above it: the parts calls, model, deletions, held, ends, late (creates and deletions that are held) and layered (an encryption
+# layer above a volume that caches), or those that are named.
 # FLTD is the server to compare with (else crates/fltd/out/fltd, or one without proofs), COUNT how many random frames a script has (300).
 set -u
 . "$(dirname "$0")/tally.sh" serve
@@ -13,6 +14,7 @@ cp $tests/serve/drivers/*.c "$room"
 # Two more that the mount's tests name.
 cp c/samples/passthrough.c "$room/meter.c"
 cp c/samples/nullfilter.c "$room/carry.c"
+cp $tests/drivers/layer.c "$room"
 words=()
 if has_sanitizers address,undefined; then
     words=("--sanitize=address,undefined")
@@ -28,7 +30,7 @@ $tests/serve/limits.py ${KAZDRIN_QUICK:+--without many_names} "$room/plain" || s
 $tests/serve/limits.py --only abandoned "$fltd" || status=1
 if why=$(may_mount); then
     make -s -C c fltmount PROGRAM="$room/fltmount" CFLAGS="-O1 ${words:+-fsanitize=address,undefined -fno-sanitize-recover=undefined}" || exit 2
-    [ $# -gt 0 ] || set -- calls cases model deletions held ends late
+    [ $# -gt 0 ] || set -- calls cases model deletions held ends late layered
     $tests/mount/check.py --server "$room/server" --mount "$room/fltmount" --count 600 "$@" || status=1
 else
     untried "$why, for the mount above it" || status=1

@@ -139,6 +139,7 @@ typedef struct {
     struct KzFileContextState *filecontext;
     struct KzHandleState *handle;
     struct KzHeldState *held;
+    struct KzImageState *image;
     struct KzJournalState *journal;
     struct KzKeptState *kept;
     struct KzLabelState *label;

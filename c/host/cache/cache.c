@@ -119,7 +119,7 @@ static bool is_mapped(KzOp *op, const void *stream, uint64_t size)
 {
     (void)op;
     const KzStream *one = stream;
-    return one->cache && kz_is_viewed(one->cache, size);
+    return one->sections.ImageSectionObject || (one->cache && kz_is_viewed(one->cache, size));
 }
 
 /* The stream was cut: what lies past its end is zeros, should it grow again. */

@@ -82,6 +82,16 @@ static NTSTATUS check_read_only(const KzName *name, const KzCreate *create)
     return !name->file->is_directory && (is_overwritten || create->access & (FILE_WRITE_DATA | FILE_APPEND_DATA)) ? STATUS_ACCESS_DENIED : STATUS_SUCCESS;
 }
 
+/* What a process executes isn't written, and doesn't go. */
+static NTSTATUS check_image(const KzName *name, const KzCreate *create)
+{
+    if (!name->stream->sections.ImageSectionObject)
+        return STATUS_SUCCESS;
+    if (create->options & FILE_DELETE_ON_CLOSE)
+        return STATUS_CANNOT_DELETE;
+    return create->access & FILE_WRITE_DATA ? STATUS_SHARING_VIOLATION : STATUS_SUCCESS;
+}
+
 /* What a file that is emptied or replaced keeps hidden, or of the system, has to be asked for so. */
 static NTSTATUS check_there(KzOp *op, const KzName *name)
 {
@@ -93,6 +103,9 @@ static NTSTATUS check_there(KzOp *op, const KzName *name)
         return STATUS_CANNOT_DELETE;
     if (kz_is_emptied(create) && name->file->attributes & ~create->attributes & (FILE_ATTRIBUTE_HIDDEN | FILE_ATTRIBUTE_SYSTEM))
         return STATUS_ACCESS_DENIED;
+    status = check_image(name, create);
+    if (!NT_SUCCESS(status))
+        return status;
     if (kz_is_emptied(create) && kz_is_mapped(op, name->stream, 0))
         return STATUS_USER_MAPPED_FILE;
     return kz_open_beside(op);

@@ -56,6 +56,8 @@ NTSTATUS kz_dispose(KzFile *file, ULONG flags)
         return flags & FILE_DISPOSITION_ON_CLOSE ? set_on_close(file, false) : keep(file);
     if (name->file->attributes & FILE_ATTRIBUTE_READONLY && !(flags & FILE_DISPOSITION_IGNORE_READONLY_ATTRIBUTE))
         return STATUS_CANNOT_DELETE;
+    if (name->stream->sections.ImageSectionObject)
+        return STATUS_CANNOT_DELETE;
     kz_enter_folder(name->volume, name->text);
     if (kz_is_directory(name) && !kz_is_empty(name))
         return STATUS_DIRECTORY_NOT_EMPTY;

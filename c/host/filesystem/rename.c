@@ -121,7 +121,7 @@ static NTSTATUS target_status(const KzName *from, KzName *to, ULONG flags, bool 
         return STATUS_SUCCESS;
     if (!(flags & FILE_RENAME_REPLACE_IF_EXISTS))
         return STATUS_OBJECT_NAME_COLLISION;
-    if (kz_is_directory(to) || to->file->attributes & FILE_ATTRIBUTE_READONLY)
+    if (kz_is_directory(to) || to->file->attributes & FILE_ATTRIBUTE_READONLY || to->stream->sections.ImageSectionObject)
         return STATUS_ACCESS_DENIED;
     if (to->stream == from->stream)
         return STATUS_SUCCESS;

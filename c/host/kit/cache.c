@@ -16,21 +16,21 @@ LOGICAL FsRtlIsPagingFile(PFILE_OBJECT FileObject)
     return FALSE;
 }
 
-/* Whether no section has something of what would be cut off; with no size, whether none has anything. */
+/* Whether no section has something of what would be cut off; with no size, whether none has anything. An image isn't cut at all. */
 BOOLEAN MmCanFileBeTruncated(PSECTION_OBJECT_POINTERS SectionPointer, PLARGE_INTEGER NewFileSize)
 {
     KZ_CALL();
     uint64_t size = NewFileSize ? (uint64_t)NewFileSize->QuadPart : 0;
     const KzCache *cache = kz_cache_with(SectionPointer);
-    return !(cache && kz_is_viewed(cache, size)) && !kz_has_section_past(SectionPointer, size);
+    return !SectionPointer->ImageSectionObject && !(cache && kz_is_viewed(cache, size)) && !kz_has_section_past(SectionPointer, size);
 }
 
 /* No image is mapped. */
 BOOLEAN MmFlushImageSection(PSECTION_OBJECT_POINTERS SectionObjectPointer, ULONG FlushType)
 {
     KZ_INSIDE_ALONE();
-    (void)SectionObjectPointer, (void)FlushType;
-    return TRUE;
+    (void)FlushType;
+    return SectionObjectPointer->ImageSectionObject == NULL;
 }
 
 /* With no offset it is about all of the file. */

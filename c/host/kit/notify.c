@@ -1,6 +1,7 @@
 /* Processes, threads and images begin and end by requests, and by programs: the routines that drivers registered are called then. */
 #include "kit/notify.h"
 
+#include "cache/image.h"
 #include "core/client.h"
 #include "core/clock.h"
 #include "core/piece.h"
@@ -213,6 +214,7 @@ uint32_t kz_end_process(uint64_t id)
     tell_process(process, NULL);
     act_as(before.process, before.thread);
     process->is_over = true;
+    kz_end_images(id);
     return KZS_OK;
 }
 

@@ -1,6 +1,7 @@
 /* Requests for what happens beside files: threads, images, handles of processes and threads, keys of the registry. */
 #include "run/events.h"
 
+#include "cache/image.h"
 #include "core/client.h"
 #include "core/op.h"
 #include "core/process.h"
@@ -86,9 +87,11 @@ static NTSTATUS load_image(uint64_t process, const char *path)
         return status;
     status = ask_section(file, IRP_MJ_ACQUIRE_FOR_SECTION_SYNCHRONIZATION);
     if (NT_SUCCESS(status)) {
+        status = kz_map_image(file, process);
         ask_section(file, IRP_MJ_RELEASE_FOR_SECTION_SYNCHRONIZATION);
-        kz_image_loads(process, file);
     }
+    if (NT_SUCCESS(status))
+        kz_image_loads(process, file);
     kz_close_opened(file);
     return status;
 }

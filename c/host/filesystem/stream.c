@@ -146,6 +146,12 @@ KzFolderAnswer kz_call_stream(KzFile *file, const KazdrinData *call, const uint8
     return name ? call_memory(file, call, bytes, room) : (KzFolderAnswer){.status = KZS_FILE_NOT_FOUND};
 }
 
+bool kz_is_in_sectors(const KzFile *file, uint64_t offset, uint64_t length)
+{
+    USHORT sector = file->volume->sector;
+    return offset % sector == 0 && length % sector == 0;
+}
+
 uint64_t kz_size_of(const KzFile *file)
 {
     if (!file->name)

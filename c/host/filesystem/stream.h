@@ -23,6 +23,8 @@ void kz_name_stream(KzStream *stream, const char *name);
 /* ---- Bytes. */
 /* A call of the base, with what is written; what is read lies in the room until the next one. */
 KzFolderAnswer kz_call_stream(KzFile *file, const KazdrinData *call, const uint8_t *bytes, uint8_t *room);
+/* What isn't cached goes by whole sectors. */
+bool kz_is_in_sectors(const KzFile *file, uint64_t offset, uint64_t length);
 /* As large as it is now: a folder of the machine is asked. */
 uint64_t kz_size_of(const KzFile *file);
 /* The file, which may be about to be opened, has that size, and no instance hears of it. */

@@ -87,11 +87,9 @@ static ULONG irp_flags_of(FLT_IO_OPERATION_FLAGS flags)
     return flags & FLTFL_IO_OPERATION_SYNCHRONOUS_PAGING ? irp | IRP_NOCACHE | IRP_PAGING_IO | IRP_SYNCHRONOUS_PAGING_IO : irp;
 }
 
-/* What isn't cached goes by whole sectors. */
 static bool is_aligned(const Transfer *one)
 {
-    USHORT sector = one->file->volume->sector;
-    return !(one->own.irp_flags & IRP_NOCACHE) || (one->offset % sector == 0 && one->length % sector == 0);
+    return !(one->own.irp_flags & IRP_NOCACHE) || kz_is_in_sectors(one->file, one->offset, one->length);
 }
 
 /* ---- What isn't waited for: its routine is called once it is over, by whoever came to its end. */

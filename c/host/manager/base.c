@@ -38,6 +38,14 @@ static void answer(KzOp *op, NTSTATUS status, const uint8_t *bytes, size_t lengt
     kazdrin_based(&kz.manager, &event, length ? bytes : (const uint8_t *)"", length);
 }
 
+/* A filter may have changed where it is, or how long. */
+static bool is_unaligned(const KzOp *op, const KazdrinData *call)
+{
+    bool is_write = call->operation == KZE_WRITE, is_data = is_write || call->operation == KZE_READ;
+    bool is_uncached = op->own.irp_flags & (IRP_NOCACHE | IRP_PAGING_IO) || op->file->object.Flags & FO_NO_INTERMEDIATE_BUFFERING;
+    return is_data && is_uncached && !kz_is_in_sectors(op->file, call->offset, is_write ? call->length : call->len);
+}
+
 /* What the virtual memory writes never makes a file larger: what stands past its end is nothing. */
 static void cut_past_end(const KzOp *op, KazdrinData *call)
 {
@@ -227,9 +235,12 @@ static bool call_file_system(KzOp *op)
     kazdrin_lent(&kz.manager, &(KazdrinEvent){.worker = worker}, &call, &none, 0);
     if (call.operation == KZE_WRITE && call.offset == KZ_AT_END)
         call.offset = kz_size_of(op->file);
+    bool is_refused = is_unaligned(op, &call);
     cut_past_end(op, &call);
     bool cuts = call.operation == KZE_SET_SIZE && op->file->name;
-    if (cuts && kz_is_mapped(op, op->file->name->stream, call.offset))
+    if (is_refused)
+        answer(op, STATUS_INVALID_PARAMETER, NULL, 0);
+    else if (cuts && kz_is_mapped(op, op->file->name->stream, call.offset))
         answer(op, STATUS_USER_MAPPED_FILE, NULL, 0);
     else if (call.operation == KZE_CREATE && op->file->name)
         call_create(op, &call, worker);

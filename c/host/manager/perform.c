@@ -17,6 +17,7 @@
 #include "filesystem/oplocks.h"
 #include "filesystem/create.h"
 #include "filesystem/sharing.h"
+#include "filesystem/stream.h"
 #include "filesystem/ranges.h"
 #include "filesystem/tree.h"
 #include "filesystem/waiting.h"
@@ -301,12 +302,11 @@ static KzAnswer carry_on(KzOp *op, bool waits)
     return kz_collect(op);
 }
 
-/* What isn't cached goes by whole sectors. */
 static bool is_unaligned(const KzFile *file, const KzBegin *asked)
 {
     bool is_write = asked->event.event == KZE_WRITE, is_data = is_write || asked->event.event == KZE_READ;
     uint64_t length = is_write ? asked->length : asked->event.len;
-    return is_data && file->object.Flags & FO_NO_INTERMEDIATE_BUFFERING && (asked->event.offset % file->volume->sector || length % file->volume->sector);
+    return is_data && file->object.Flags & FO_NO_INTERMEDIATE_BUFFERING && !kz_is_in_sectors(file, asked->event.offset, length);
 }
 
 /* A create takes its name among those of the volume, and each looks whether the file is open still. */

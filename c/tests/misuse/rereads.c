@@ -1,4 +1,5 @@
-/* Asks in paging I/O for what waits for that: a file `read` is read by the cache in a paging read, a file `grow` is made larger there, and a file `flush` is flushed in a paging write. */
+/* Asks in paging I/O for what waits for that: a file `read` is read by the cache in a paging read, a file `grow` is made larger there, a file `flush` is flushed in a paging write, and a file `past` is
+ * written past the cache there, as no paging I/O. A file `paged` is so as paging I/O, which is right. A file `odd` is written to no whole sectors. */
 #include <fltKernel.h>
 
 static PFLT_FILTER gFilter;
@@ -28,11 +29,39 @@ static FLT_PREOP_CALLBACK_STATUS PreRead(PFLT_CALLBACK_DATA Data, PCFLT_RELATED_
     return FLT_PREOP_SUCCESS_NO_CALLBACK;
 }
 
+static VOID WriteAside(PFLT_CALLBACK_DATA Data, PCFLT_RELATED_OBJECTS FltObjects, FLT_IO_OPERATION_FLAGS Flags)
+{
+    PFLT_IO_PARAMETER_BLOCK asked = Data->Iopb;
+    ULONG length = asked->Parameters.Write.Length, done;
+    LARGE_INTEGER place = asked->Parameters.Write.ByteOffset;
+    PUCHAR bytes = FltAllocatePoolAlignedWithTag(FltObjects->Instance, NonPagedPoolNx, length, 'rerR');
+
+    if (bytes == NULL) {
+        return;
+    }
+    RtlFillMemory(bytes, length, 'x');
+    FltWriteFile(FltObjects->Instance, FltObjects->FileObject, &place, length, bytes, FLTFL_IO_OPERATION_NON_CACHED | FLTFL_IO_OPERATION_DO_NOT_UPDATE_BYTE_OFFSET | Flags, &done, NULL, NULL);
+    FltFreePoolAlignedWithTag(FltObjects->Instance, bytes, 'rerR');
+}
+
 static FLT_PREOP_CALLBACK_STATUS PreWrite(PFLT_CALLBACK_DATA Data, PCFLT_RELATED_OBJECTS FltObjects, PVOID *CompletionContext)
 {
     UNREFERENCED_PARAMETER(CompletionContext);
     if (Is(FltObjects, Data, L"\\flush")) {
         FltFlushBuffers(FltObjects->Instance, FltObjects->FileObject);
+    }
+    if (Is(FltObjects, Data, L"\\past")) {
+        WriteAside(Data, FltObjects, 0);
+    }
+    if (Is(FltObjects, Data, L"\\odd")) {
+        Data->Iopb->Parameters.Write.ByteOffset.QuadPart += 1;
+        FltSetCallbackDataDirty(Data);
+    }
+    if (Is(FltObjects, Data, L"\\paged")) {
+        WriteAside(Data, FltObjects, FLTFL_IO_OPERATION_PAGING);
+        Data->IoStatus.Status = STATUS_SUCCESS;
+        Data->IoStatus.Information = Data->Iopb->Parameters.Write.Length;
+        return FLT_PREOP_COMPLETE;
     }
     return FLT_PREOP_SUCCESS_NO_CALLBACK;
 }

@@ -708,10 +708,12 @@ KZ_ASSERT(sizeof(FAST_MUTEX) == 0x38 && sizeof(ERESOURCE) == 0x68 && sizeof(KLOC
 
 /* How a lock is held: alone, shared, alone or shared again by the same owner; shared whoever waits for it alone, and shared only after those who do. */
 enum { KZ_ALONE, KZ_SHARED, KZ_AGAIN, KZ_SHARED_AGAIN, KZ_SHARED_FIRST, KZ_SHARED_LAST, KZ_HOW = 15 };
-/* Beside that, which lock it is: a fast mutex, which may not be paged out; it has a count, as a guarded mutex has; a resource, which has to be made; and that its call enters a critical region. */
-enum { KZ_FAST = 16, KZ_COUNTED = 32, KZ_MADE = 64, KZ_IN_REGION = 128 };
+/* Beside that, which lock it is: a fast mutex, which may not be paged out; it has a count, as a guarded mutex has; a resource, which has to be made; that its call enters a critical region, or a guarded
+ * one; that its caller is in one; and that its caller is at DISPATCH_LEVEL. */
+enum { KZ_FAST = 16, KZ_COUNTED = 32, KZ_MADE = 64, KZ_IN_REGION = 128, KZ_GUARDED = 256, KZ_NEEDS_REGION = 512, KZ_AT_DPC = 1024 };
 VOID KzTake(PVOID Lock, int How, KIRQL Irql, PCSTR Call);
 VOID KzLetGo(PVOID Lock, PCSTR Call);
+VOID KzLetGoAtDpc(PVOID Lock, PCSTR Call);
 VOID KzLetGoTo(PVOID Lock, KIRQL Irql, PCSTR Call);
 BOOLEAN KzTryTake(PVOID Lock, int How, KIRQL Irql, PCSTR Call);
 VOID KzForgetLock(PVOID Lock, PCSTR Call);
@@ -727,13 +729,13 @@ FORCEINLINE VOID ExInitializeFastMutex(PFAST_MUTEX FastMutex)
     FastMutex->Count = 1;
 }
 #define ExAcquireFastMutex(lock) KzTake((lock), KZ_ALONE | KZ_FAST | KZ_COUNTED, APC_LEVEL, "ExAcquireFastMutex")
-#define ExAcquireFastMutexUnsafe(lock) KzTake((lock), KZ_ALONE | KZ_FAST | KZ_COUNTED, PASSIVE_LEVEL, "ExAcquireFastMutexUnsafe")
+#define ExAcquireFastMutexUnsafe(lock) KzTake((lock), KZ_ALONE | KZ_FAST | KZ_COUNTED | KZ_NEEDS_REGION, PASSIVE_LEVEL, "ExAcquireFastMutexUnsafe")
 #define ExTryToAcquireFastMutex(lock) KzTryTake((lock), KZ_ALONE | KZ_FAST | KZ_COUNTED, APC_LEVEL, "ExTryToAcquireFastMutex")
 #define ExReleaseFastMutex(lock) KzLetGo((lock), "ExReleaseFastMutex")
 #define ExReleaseFastMutexUnsafe(lock) KzLetGo((lock), "ExReleaseFastMutexUnsafe")
 #define KeInitializeGuardedMutex ExInitializeFastMutex
-#define KeAcquireGuardedMutex(lock) KzTake((lock), KZ_ALONE | KZ_COUNTED | KZ_IN_REGION, PASSIVE_LEVEL, "KeAcquireGuardedMutex")
-#define KeTryToAcquireGuardedMutex(lock) KzTryTake((lock), KZ_ALONE | KZ_COUNTED | KZ_IN_REGION, PASSIVE_LEVEL, "KeTryToAcquireGuardedMutex")
+#define KeAcquireGuardedMutex(lock) KzTake((lock), KZ_ALONE | KZ_COUNTED | KZ_GUARDED, PASSIVE_LEVEL, "KeAcquireGuardedMutex")
+#define KeTryToAcquireGuardedMutex(lock) KzTryTake((lock), KZ_ALONE | KZ_COUNTED | KZ_GUARDED, PASSIVE_LEVEL, "KeTryToAcquireGuardedMutex")
 #define KeReleaseGuardedMutex(lock) KzLetGo((lock), "KeReleaseGuardedMutex")
 
 NTSTATUS ExInitializeResourceLite(PERESOURCE Resource);
@@ -759,15 +761,15 @@ VOID ExConvertExclusiveToSharedLite(PERESOURCE Resource);
 #define ExGetSharedWaiterCount(lock) ((void)(lock), 0UL)
 VOID KeEnterCriticalRegion(VOID);
 VOID KeLeaveCriticalRegion(VOID);
-#define KeEnterGuardedRegion KeEnterCriticalRegion
-#define KeLeaveGuardedRegion KeLeaveCriticalRegion
+VOID KeEnterGuardedRegion(VOID);
+VOID KeLeaveGuardedRegion(VOID);
 #define FsRtlEnterFileSystem KeEnterCriticalRegion
 #define FsRtlExitFileSystem KeLeaveCriticalRegion
 BOOLEAN KeAreApcsDisabled(VOID);
-#define KeAreAllApcsDisabled KeAreApcsDisabled
+BOOLEAN KeAreAllApcsDisabled(VOID);
 #define ExInitializePushLock(lock) ((void)(*(lock) = 0))
-#define ExAcquirePushLockExclusive(lock) KzTake((lock), KZ_ALONE, PASSIVE_LEVEL, "ExAcquirePushLockExclusive")
-#define ExAcquirePushLockShared(lock) KzTake((lock), KZ_SHARED, PASSIVE_LEVEL, "ExAcquirePushLockShared")
+#define ExAcquirePushLockExclusive(lock) KzTake((lock), KZ_ALONE | KZ_NEEDS_REGION, PASSIVE_LEVEL, "ExAcquirePushLockExclusive")
+#define ExAcquirePushLockShared(lock) KzTake((lock), KZ_SHARED | KZ_NEEDS_REGION, PASSIVE_LEVEL, "ExAcquirePushLockShared")
 #define ExReleasePushLockExclusive(lock) KzLetGo((lock), "ExReleasePushLockExclusive")
 #define ExReleasePushLockShared(lock) KzLetGo((lock), "ExReleasePushLockShared")
 
@@ -775,14 +777,15 @@ BOOLEAN KeAreApcsDisabled(VOID);
 #define KeAcquireSpinLock(lock, irql) (*(irql) = KeGetCurrentIrql(), KzTake((lock), KZ_ALONE, DISPATCH_LEVEL, "KeAcquireSpinLock"))
 #define KeAcquireSpinLockRaiseToDpc(lock) KzTakeSpinLock((lock), "KeAcquireSpinLockRaiseToDpc")
 #define KeReleaseSpinLock(lock, irql) KzLetGoTo((lock), (irql), "KeReleaseSpinLock")
-#define KeAcquireSpinLockAtDpcLevel(lock) KzTake((lock), KZ_ALONE, DISPATCH_LEVEL, "KeAcquireSpinLockAtDpcLevel")
-#define KeReleaseSpinLockFromDpcLevel(lock) KzLetGo((lock), "KeReleaseSpinLockFromDpcLevel")
-#define KeTryToAcquireSpinLockAtDpcLevel(lock) KzTryTake((lock), KZ_ALONE, DISPATCH_LEVEL, "KeTryToAcquireSpinLockAtDpcLevel")
+#define KeAcquireSpinLockAtDpcLevel(lock) KzTake((lock), KZ_ALONE | KZ_AT_DPC, DISPATCH_LEVEL, "KeAcquireSpinLockAtDpcLevel")
+#define KeReleaseSpinLockFromDpcLevel(lock) KzLetGoAtDpc((lock), "KeReleaseSpinLockFromDpcLevel")
+#define KeTryToAcquireSpinLockAtDpcLevel(lock) KzTryTake((lock), KZ_ALONE | KZ_AT_DPC, DISPATCH_LEVEL, "KeTryToAcquireSpinLockAtDpcLevel")
 #define KeAcquireInStackQueuedSpinLock(lock, handle) \
     ((handle)->LockQueue[1] = (PVOID)(lock), (handle)->OldIrql = KeGetCurrentIrql(), KzTake((lock), KZ_ALONE, DISPATCH_LEVEL, "KeAcquireInStackQueuedSpinLock"))
 #define KeReleaseInStackQueuedSpinLock(handle) KzLetGoTo((handle)->LockQueue[1], (handle)->OldIrql, "KeReleaseInStackQueuedSpinLock")
-#define KeAcquireInStackQueuedSpinLockAtDpcLevel KeAcquireInStackQueuedSpinLock
-#define KeReleaseInStackQueuedSpinLockFromDpcLevel KeReleaseInStackQueuedSpinLock
+#define KeAcquireInStackQueuedSpinLockAtDpcLevel(lock, handle) \
+    ((handle)->LockQueue[1] = (PVOID)(lock), KzTake((lock), KZ_ALONE | KZ_AT_DPC, DISPATCH_LEVEL, "KeAcquireInStackQueuedSpinLockAtDpcLevel"))
+#define KeReleaseInStackQueuedSpinLockFromDpcLevel(handle) KzLetGoAtDpc((handle)->LockQueue[1], "KeReleaseInStackQueuedSpinLockFromDpcLevel")
 #define ExAcquireSpinLockExclusive(lock) KzTakeSpinLock((lock), "ExAcquireSpinLockExclusive")
 #define ExReleaseSpinLockExclusive(lock, irql) KzLetGoTo((lock), (irql), "ExReleaseSpinLockExclusive")
 #define ExAcquireSpinLockShared(lock) KzTakeSpinLockShared((lock), "ExAcquireSpinLockShared")

@@ -38,7 +38,9 @@ struct KzClient {
     uint64_t process, thread; /* who asks */
     bool has_pended; /* its last operation did, before it was over */
     PIRP top_level;
-    int region;      /* stands for its critical region */
+    int region, guarded; /* stand for its critical region, and for its guarded one */
+    bool owes_wait; /* it set something and said that it waits next: it is at DISPATCH_LEVEL until then */
+    KIRQL before_wait;
     uint64_t calls;  /* that its drivers' code has made */
     unsigned inside; /* how many calls of the host it is in; 0 in a driver's code */
     struct {

@@ -14,7 +14,7 @@ typedef struct {
     const void *lock;
     KzClient *client;
     unsigned count;
-    bool is_shared, is_in_region;
+    bool is_shared, is_in_region, is_guarded;
     KIRQL irql, before; /* to which it raises, and at which it was taken */
     const char *call;
     const void *from, *callers[2]; /* where, as KzPlace has it */
@@ -161,11 +161,13 @@ static void check_place(const void *lock, int which, KIRQL irql, const char *cal
 static void note(PVOID lock, int how, KIRQL irql, const char *call)
 {
     Held *one = find(lock);
+    bool is_guarded = how & KZ_GUARDED, is_in_region = is_guarded || how & KZ_IN_REGION;
+    KIRQL before = how & KZ_AT_DPC ? DISPATCH_LEVEL : kz_irql();
     check_place(lock, how, irql, call);
     if (one)
         one->count++;
     else
-        add((Held){lock, kz_me, 1, is_shared(how & KZ_HOW), (how & KZ_IN_REGION) != 0, irql, kz_irql(), call, kz_me->place.from, {kz_me->place.callers[0], kz_me->place.callers[1]}, kz_me->place.number});
+        add((Held){lock, kz_me, 1, is_shared(how & KZ_HOW), is_in_region, is_guarded, irql, before, call, kz_me->place.from, {kz_me->place.callers[0], kz_me->place.callers[1]}, kz_me->place.number});
     kz_scheduler->touch(lock, 0, KZT_TAKES);
 }
 
@@ -176,10 +178,20 @@ static void use_lock(const void *lock)
     kz_scheduler->uses(lock, KZU_WRITES);
 }
 
+/* In what state a thread may ask for it. */
+static void check_state(const void *lock, int how, const char *call)
+{
+    if (how & KZ_NEEDS_REGION && !kz_are_apcs_disabled())
+        kz_tell_of(lock, KZM_APCS_ENABLED, call, "called with normal kernel APCs enabled (no KeEnterCriticalRegion)");
+    if (how & KZ_AT_DPC && kz_irql() < DISPATCH_LEVEL)
+        kz_tell(KZM_IRQL, call, "called at IRQL %u; it may be called at DISPATCH_LEVEL (2) alone", kz_irql());
+}
+
 BOOLEAN KzTryTake(PVOID Lock, int How, KIRQL Irql, PCSTR Call)
 {
     KZ_CALL_OF(Call);
     use_lock(Lock);
+    check_state(Lock, How, Call);
     Held *one = find(Lock);
     int how = How & KZ_HOW;
     if ((one && !may_share(one, how)) || !is_free(&(Wanted){.lock = Lock, .client = kz_me, .how = how})) {
@@ -194,6 +206,7 @@ VOID KzTake(PVOID Lock, int How, KIRQL Irql, PCSTR Call)
 {
     KZ_CALL_OF(Call);
     use_lock(Lock);
+    check_state(Lock, How, Call);
     Held *one = find(Lock);
     Wanted asked = {.lock = Lock, .client = kz_me, .how = How & KZ_HOW};
     if (one && !may_share(one, asked.how))
@@ -221,6 +234,17 @@ VOID KzLetGo(PVOID Lock, PCSTR Call)
     KZ_CALL_OF(Call);
     use_lock(Lock);
     let_go(find(Lock), Lock, Call);
+}
+
+/* The IRQL stays, whatever it was as the lock was taken. */
+VOID KzLetGoAtDpc(PVOID Lock, PCSTR Call)
+{
+    KZ_CALL_OF(Call);
+    use_lock(Lock);
+    Held *one = find(Lock);
+    if (one && one->before < DISPATCH_LEVEL)
+        kz_me->place.raised = DISPATCH_LEVEL;
+    let_go(one, Lock, Call);
 }
 
 VOID KzForgetLock(PVOID Lock, PCSTR Call)
@@ -274,6 +298,19 @@ ULONG KzIsHeld(const VOID *Lock)
     return one ? one->count : 0;
 }
 
+/* The thread's own state is as it was when the callback was called. */
+static void tell_state(void)
+{
+    KzPlace *place = &kz_me->place;
+    if (place->raised > place->irql)
+        kz_tell(KZM_LOCK_AT_RETURN, kz_me->owes_wait ? "KeWaitForSingleObject" : "KeLowerIrql", kz_me->owes_wait ? "never called after a call whose Wait is TRUE" : "the IRQL is still raised as the callback returns");
+    place->raised = place->irql;
+    kz_me->owes_wait = false;
+    if (kz_me->process != place->process)
+        kz_tell(KZM_ATTACHED, "KeUnstackDetachProcess", "never called: the thread is in process %llu as the callback returns", (unsigned long long)kz_me->process);
+    kz_me->process = place->process;
+}
+
 /* What the callback that returns took and didn't let go. */
 void kz_tell_locks(void)
 {
@@ -282,19 +319,17 @@ void kz_tell_locks(void)
             at++;
             continue;
         }
-        bool is_region = kz.held->all[at].lock == &kz_me->region;
+        const void *lock = kz.held->all[at].lock;
         kz_me->place.call = kz.held->all[at].call;
         kz_me->place.from = kz.held->all[at].from;
         memcpy(kz_me->place.callers, kz.held->all[at].callers, sizeof kz_me->place.callers);
-        kz_tell(KZM_LOCK_AT_RETURN, kz.held->all[at].call, is_region ? "the critical region isn't left as the callback returns" : "the lock is still held as the callback returns");
+        kz_tell(KZM_LOCK_AT_RETURN, kz.held->all[at].call, "the %s as the callback returns", lock == &kz_me->region ? "critical region isn't left" : lock == &kz_me->guarded ? "guarded region isn't left" : "lock is still held");
         kz.held->all[at].count = 1;
         kz_me->place.from = NULL;
-        let_go(&kz.held->all[at], (PVOID)(uintptr_t)kz.held->all[at].lock, kz.held->all[at].call);
+        let_go(&kz.held->all[at], (PVOID)(uintptr_t)lock, kz.held->all[at].call);
     }
-    if (kz_me->place.callback != KZ_IN_NOTHING && kz_me->place.raised > kz_me->place.irql) {
-        kz_tell(KZM_LOCK_AT_RETURN, "KeLowerIrql", "the IRQL is still raised as the callback returns");
-        kz_me->place.raised = kz_me->place.irql;
-    }
+    if (kz_me->place.callback != KZ_IN_NOTHING)
+        tell_state();
 }
 
 static void check_locks(const void *memory, size_t size)
@@ -335,12 +370,36 @@ VOID KzLetGoTo(PVOID Lock, KIRQL Irql, PCSTR Call)
     let_go(one, Lock, Call);
 }
 
+bool kz_is_in_region(bool is_guarded)
+{
+    for (size_t at = 0; at < kz.held->count; at++)
+        if (kz.held->all[at].client == kz_me && (is_guarded ? kz.held->all[at].is_guarded : kz.held->all[at].is_in_region))
+            return true;
+    return false;
+}
+
 bool kz_are_apcs_disabled(void)
 {
     for (size_t at = 0; at < kz.held->count; at++)
         if (kz.held->all[at].client == kz_me && (kz.held->all[at].is_in_region || kz.held->all[at].irql > PASSIVE_LEVEL))
             return true;
     return kz_irql() > PASSIVE_LEVEL;
+}
+
+void kz_owe_wait(bool is_owed)
+{
+    if (!is_owed || kz_me->owes_wait)
+        return;
+    kz_me->owes_wait = true;
+    kz_me->before_wait = kz_me->place.raised;
+    kz_me->place.raised = DISPATCH_LEVEL;
+}
+
+void kz_pay_wait(void)
+{
+    if (kz_me->owes_wait)
+        kz_me->place.raised = kz_me->before_wait;
+    kz_me->owes_wait = false;
 }
 
 bool kz_share_lock(const void *lock)

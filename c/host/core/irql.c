@@ -11,26 +11,33 @@
 #include <stdlib.h>
 
 /* In the order of their names, each. */
-/* They wait for a file system, the registry or a thread, and need APCs. */
+/* They wait for a file system, whose answer comes by a special kernel APC. */
+static const char *const by_apc[] = {
+    "FltCreateFile", "FltCreateFileEx", "FltCreateFileEx2", "FltCreateMailslotFile", "FltCreateNamedPipeFile", "FltCreateSystemVolumeInformationFolder",
+    "FltDeviceIoControlFile", "FltFlushBuffers", "FltFlushBuffers2", "FltFsControlFile", "FltQueryDirectoryFile", "FltQueryDirectoryFileEx", "FltQueryEaFile",
+    "FltQueryInformationFile", "FltQueryQuotaInformationFile", "FltQuerySecurityObject", "FltQueryVolumeInformationFile", "FltReadFile", "FltReadFileEx",
+    "FltReissueSynchronousIo", "FltSetEaFile", "FltSetInformationFile", "FltSetQuotaInformationFile", "FltSetSecurityObject", "FltTagFile", "FltTagFileEx",
+    "FltUntagFile", "FltWriteFile", "FltWriteFileEx", "IoCreateFile", "IoCreateFileEx", "IoCreateFileSpecifyDeviceObjectHint", "ZwCreateFile", "ZwDeleteFile",
+    "ZwDeviceIoControlFile", "ZwFlushBuffersFile", "ZwFsControlFile", "ZwLockFile", "ZwOpenFile", "ZwQueryDirectoryFile", "ZwQueryDirectoryFileEx",
+    "ZwQueryEaFile", "ZwQueryFullAttributesFile", "ZwQueryInformationFile", "ZwQueryVolumeInformationFile", "ZwReadFile", "ZwSetEaFile", "ZwSetInformationFile",
+    "ZwSetVolumeInformationFile", "ZwUnlockFile", "ZwWriteFile",
+};
+
+/* They wait for the registry, a program or a thread. */
 static const char *const at_passive[] = {
-    "BCryptCloseAlgorithmProvider", "BCryptOpenAlgorithmProvider", "EtwRegister", "EtwUnregister", "FltClose", "FltCreateFile", "FltCreateFileEx", "FltCreateFileEx2",
-    "FltCreateMailslotFile", "FltCreateNamedPipeFile", "FltCreateSystemVolumeInformationFolder", "FltDetachVolume", "FltDeviceIoControlFile", "FltFlushBuffers", "FltFlushBuffers2",
-    "FltFsControlFile", "FltOpenVolume", "FltQueryDirectoryFile", "FltQueryDirectoryFileEx", "FltQueryEaFile", "FltQueryInformationByName", "FltQueryInformationFile",
-    "FltQueryQuotaInformationFile", "FltQuerySecurityObject", "FltQueryVolumeInformation", "FltQueryVolumeInformationFile", "FltReadFile", "FltReadFileEx", "FltReissueSynchronousIo",
-    "FltSetEaFile", "FltSetInformationFile", "FltSetQuotaInformationFile", "FltSetSecurityObject", "FltSetVolumeInformation", "FltTagFile", "FltTagFileEx", "FltUntagFile", "FltWriteFile",
-    "FltWriteFileEx", "FsRtlGetFileSize", "IoBuildDeviceIoControlRequest", "IoBuildSynchronousFsdRequest", "IoCreateDeviceSecure", "IoCreateFile", "IoCreateFileEx",
-    "IoCreateFileSpecifyDeviceObjectHint", "IoQueryFileInformation", "IoQueryVolumeInformation", "IoRegisterBootDriverReinitialization", "IoRegisterDriverReinitialization",
-    "IoRegisterFsRegistrationChange", "IoRegisterShutdownNotification", "IoReleaseRemoveLockAndWait", "IoUnregisterFsRegistrationChange", "IoWMIRegistrationControl", "ObRegisterCallbacks",
-    "ObUnRegisterCallbacks", "PsSetCreateProcessNotifyRoutineEx2", "PsSetCreateThreadNotifyRoutine", "PsSetCreateThreadNotifyRoutineEx", "PsSetLoadImageNotifyRoutine",
-    "PsSetLoadImageNotifyRoutineEx", "PsTerminateSystemThread", "ZwAllocateVirtualMemory", "ZwCancelIoFileEx", "ZwClose", "ZwCreateDirectoryObject", "ZwCreateEvent", "ZwCreateFile",
-    "ZwCreateKey", "ZwCreateSection", "ZwCreateTransaction", "ZwDeleteFile", "ZwDeleteKey", "ZwDeleteValueKey", "ZwDeviceIoControlFile", "ZwDuplicateObject", "ZwEnumerateKey",
-    "ZwEnumerateValueKey", "ZwFlushBuffersFile", "ZwFlushKey", "ZwFreeVirtualMemory", "ZwFsControlFile", "ZwLoadDriver", "ZwLockFile", "ZwMakeTemporaryObject", "ZwMapViewOfSection",
-    "ZwNotifyChangeKey", "ZwOpenDirectoryObject", "ZwOpenEvent", "ZwOpenFile", "ZwOpenKey", "ZwOpenKeyEx", "ZwOpenProcess", "ZwOpenProcessTokenEx", "ZwOpenSection",
-    "ZwOpenSymbolicLinkObject", "ZwOpenThread", "ZwOpenThreadTokenEx", "ZwQueryDirectoryFile", "ZwQueryDirectoryFileEx", "ZwQueryEaFile", "ZwQueryFullAttributesFile",
-    "ZwQueryInformationByName", "ZwQueryInformationFile", "ZwQueryInformationProcess", "ZwQueryInformationThread", "ZwQueryInformationToken", "ZwQueryKey", "ZwQueryObject",
-    "ZwQuerySecurityObject", "ZwQuerySymbolicLinkObject", "ZwQuerySystemInformation", "ZwQueryValueKey", "ZwQueryVirtualMemory", "ZwQueryVolumeInformationFile", "ZwReadFile",
-    "ZwRenameKey", "ZwSetEaFile", "ZwSetEvent", "ZwSetInformationFile", "ZwSetSecurityObject", "ZwSetValueKey", "ZwSetVolumeInformationFile", "ZwTerminateProcess", "ZwUnloadDriver",
-    "ZwUnlockFile", "ZwUnmapViewOfSection", "ZwWaitForSingleObject", "ZwWriteFile",
+    "BCryptCloseAlgorithmProvider", "BCryptOpenAlgorithmProvider", "EtwRegister", "EtwUnregister", "FltClose", "FltDetachVolume", "FltOpenVolume",
+    "FltQueryInformationByName", "FltQueryVolumeInformation", "FltSetVolumeInformation", "FsRtlGetFileSize", "IoBuildDeviceIoControlRequest",
+    "IoBuildSynchronousFsdRequest", "IoCreateDeviceSecure", "IoQueryFileInformation", "IoQueryVolumeInformation", "IoRegisterBootDriverReinitialization",
+    "IoRegisterDriverReinitialization", "IoRegisterFsRegistrationChange", "IoRegisterShutdownNotification", "IoReleaseRemoveLockAndWait",
+    "IoUnregisterFsRegistrationChange", "IoWMIRegistrationControl", "ObRegisterCallbacks", "ObUnRegisterCallbacks", "PsSetCreateProcessNotifyRoutineEx2",
+    "PsSetCreateThreadNotifyRoutine", "PsSetCreateThreadNotifyRoutineEx", "PsSetLoadImageNotifyRoutine", "PsSetLoadImageNotifyRoutineEx",
+    "PsTerminateSystemThread", "ZwAllocateVirtualMemory", "ZwCancelIoFileEx", "ZwClose", "ZwCreateDirectoryObject", "ZwCreateEvent", "ZwCreateKey",
+    "ZwCreateSection", "ZwCreateTransaction", "ZwDeleteKey", "ZwDeleteValueKey", "ZwDuplicateObject", "ZwEnumerateKey", "ZwEnumerateValueKey", "ZwFlushKey",
+    "ZwFreeVirtualMemory", "ZwLoadDriver", "ZwMakeTemporaryObject", "ZwMapViewOfSection", "ZwNotifyChangeKey", "ZwOpenDirectoryObject", "ZwOpenEvent",
+    "ZwOpenKey", "ZwOpenKeyEx", "ZwOpenProcess", "ZwOpenProcessTokenEx", "ZwOpenSection", "ZwOpenSymbolicLinkObject", "ZwOpenThread", "ZwOpenThreadTokenEx",
+    "ZwQueryInformationByName", "ZwQueryInformationProcess", "ZwQueryInformationThread", "ZwQueryInformationToken", "ZwQueryKey", "ZwQueryObject",
+    "ZwQuerySecurityObject", "ZwQuerySymbolicLinkObject", "ZwQuerySystemInformation", "ZwQueryValueKey", "ZwQueryVirtualMemory", "ZwRenameKey", "ZwSetEvent",
+    "ZwSetSecurityObject", "ZwSetValueKey", "ZwTerminateProcess", "ZwUnloadDriver", "ZwUnmapViewOfSection", "ZwWaitForSingleObject",
 };
 
 /* Nothing that they touch is paged, and they wait for nobody. A release is the mistake of its acquire, and is told there; how long a wait is says its level, and what kind of memory is meant. */
@@ -129,9 +136,17 @@ void kz_may_be_called(const char *call, KIRQL most)
         kz_tell(KZM_IRQL, call, "called at IRQL %u; it may be called up to %s (%u)", irql, name_of(most), most);
 }
 
+static KIRQL most_of(const char *call)
+{
+    bool is_passive = IS_IN(call, by_apc) || IS_IN(call, at_passive);
+    return is_passive ? PASSIVE_LEVEL : IS_IN(call, at_dispatch) ? DISPATCH_LEVEL : APC_LEVEL;
+}
+
 void kz_check_irql(const char *call)
 {
-    if (kz_irql() == PASSIVE_LEVEL || IS_IN(call, anywhere) || !is_of_kit(call))
-        return;
-    kz_may_be_called(call, IS_IN(call, at_passive) ? PASSIVE_LEVEL : IS_IN(call, at_dispatch) ? DISPATCH_LEVEL : APC_LEVEL);
+    bool is_raised = kz_irql() > PASSIVE_LEVEL;
+    if (!is_raised && kz_is_in_region(true) && kz_me->inside <= 1 && IS_IN(call, by_apc))
+        kz_tell(KZM_APCS_DISABLED, call, "called with special kernel APCs disabled (in a guarded region)");
+    if (is_raised && !IS_IN(call, anywhere) && is_of_kit(call))
+        kz_may_be_called(call, most_of(call));
 }

@@ -32,6 +32,7 @@ KzPlace kz_enter(KzCallback callback, uint8_t worker, PFLT_FILTER filter, PFLT_I
                              .number = ++kz_me->places,
                              .depth = before.depth + 1,
                              .worker = worker,
+                             .process = kz_me->process,
                              .irql = before.irql,
                              .raised = before.raised,
                              .locks_from = before.locks_from,

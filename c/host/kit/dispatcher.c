@@ -3,6 +3,7 @@
 
 #include "core/access.h"
 #include "core/client.h"
+#include "core/held.h"
 #include "core/piece.h"
 #include "core/told.h"
 
@@ -38,7 +39,8 @@ LONG KeSetEvent(PRKEVENT Event, KPRIORITY Increment, BOOLEAN Wait)
 {
     KZ_CALL();
     kz_check_dispatcher(&Event->Header, "an event", __func__);
-    (void)Increment, (void)Wait;
+    (void)Increment;
+    kz_owe_wait(Wait);
     LONG before = Event->Header.SignalState;
     Event->Header.SignalState = 1;
     kz_scheduler->touch(Event, 0, KZT_GIVES);
@@ -83,7 +85,8 @@ LONG KeReleaseSemaphore(PRKSEMAPHORE Semaphore, KPRIORITY Increment, LONG Adjust
 {
     KZ_CALL();
     kz_check_dispatcher(&Semaphore->Header, "a semaphore", __func__);
-    (void)Increment, (void)Wait;
+    (void)Increment;
+    kz_owe_wait(Wait);
     LONG before = Semaphore->Header.SignalState;
     kz_scheduler->touch(Semaphore, 0, KZT_GIVES);
     if (!was_made(&Semaphore->Header))
@@ -109,7 +112,7 @@ LONG KeReleaseMutex(PRKMUTEX Mutex, BOOLEAN Wait)
 {
     KZ_CALL();
     kz_check_dispatcher(&Mutex->Header, "a mutex", __func__);
-    (void)Wait;
+    kz_owe_wait(Wait);
     LONG before = Mutex->Header.SignalState;
     KzLetGo(Mutex, __func__);
     Mutex->Header.SignalState = KzIsHeld(Mutex) ? 0 : 1;

@@ -50,10 +50,30 @@ VOID KeLeaveCriticalRegion(VOID)
     KzLetGo(&kz_me->region, __func__);
 }
 
+VOID KeEnterGuardedRegion(VOID)
+{
+    KZ_INSIDE_ALONE();
+    KzTake(&kz_me->guarded, KZ_AGAIN | KZ_GUARDED, PASSIVE_LEVEL, __func__);
+}
+
+VOID KeLeaveGuardedRegion(VOID)
+{
+    KZ_INSIDE_ALONE();
+    KzLetGo(&kz_me->guarded, __func__);
+}
+
+/* Normal ones, by regions; the IRQL isn't looked at. */
 BOOLEAN KeAreApcsDisabled(VOID)
 {
     KZ_INSIDE_ALONE();
-    return kz_are_apcs_disabled();
+    return kz_is_in_region(false);
+}
+
+/* Special ones, too. */
+BOOLEAN KeAreAllApcsDisabled(VOID)
+{
+    KZ_INSIDE_ALONE();
+    return kz_is_in_region(true) || kz_irql() >= APC_LEVEL;
 }
 
 KIRQL KzTakeSpinLock(PVOID Lock, PCSTR Call)

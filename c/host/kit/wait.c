@@ -182,6 +182,7 @@ static NTSTATUS wait_alone(Awaited *one, PLARGE_INTEGER timeout)
 
 static NTSTATUS wait_for(Awaited *one, PLARGE_INTEGER timeout)
 {
+    kz_pay_wait();
     for (ULONG at = 0; at < one->count; at++)
         if (is_known(one->objects[at]))
             kz_check_dispatcher(one->objects[at], "an object", one->call);
@@ -196,10 +197,19 @@ static NTSTATUS wait_for(Awaited *one, PLARGE_INTEGER timeout)
     return kz_has_others() ? wait_beside(one, timeout ? units_of(timeout) : 0) : wait_alone(one, timeout);
 }
 
+/* A thread that waits for a program's sake may have its stack paged out. */
+static void check_mode(const void *object, KPROCESSOR_MODE mode, const void *frame, const char *call)
+{
+    enum { STACK = 24 * 1024 };
+    if (mode == UserMode && (uintptr_t)object - (uintptr_t)frame < STACK)
+        kz_tell_of(object, KZM_PAGED_OBJECT, call, "with UserMode for an object on the stack, which may be paged out meanwhile");
+}
+
 NTSTATUS KeWaitForSingleObject(PVOID Object, KWAIT_REASON WaitReason, KPROCESSOR_MODE WaitMode, BOOLEAN Alertable, PLARGE_INTEGER Timeout)
 {
     KZ_CALL();
-    (void)WaitReason, (void)WaitMode, (void)Alertable;
+    (void)WaitReason, (void)Alertable;
+    check_mode(Object, WaitMode, __builtin_frame_address(0), __func__);
     return wait_for(&(Awaited){1, &Object, false, NULL, __func__}, Timeout);
 }
 

@@ -37,6 +37,8 @@ mod own_turn;
 #[cfg(test)]
 mod put_aside;
 #[cfg(test)]
+mod random_lists;
+#[cfg(test)]
 mod same_worker;
 #[cfg(test)]
 mod schedules;

@@ -1,4 +1,4 @@
-//! What filters see of one worker and a client, by the lists that all managers are held to. Nothing runs at the same time: each request is made by the client, and
+//! What filters see of one worker and a client, by the lists that all managers are held to: those written by hand, and those of tests/model/lists.py. Nothing runs at the same time: each request is made by the client, and
 //! then the worker does what there is to do.
 
 ghost use Rattle.std.specs.Prelude.{◌≡◌, All, IfSome};
@@ -6,6 +6,7 @@ ghost use Rattle.fm_rundown.specs.Seats.{IsSeatOf};
 ghost use Rattle.fm_lock.specs.Blanks.{IsBlankOf};
 
 use crate::fixture::{MemoryWorker, mounted, new_worker, work_off};
+use crate::random_lists::RANDOM;
 use fm_callback_data::{FileRequest, Request};
 use fm_lock::Manager;
 use fm_queue::JobQueue;
@@ -19,10 +20,8 @@ use std::alloc::Global;
 use std::marker::Brand;
 use std::sync::ledger::{Blank, Ledger};
 use std::sync::{Arc, Wait};
+use std::test::Fail;
 use std::time::Clock;
-
-/// How many lists there are.
-const LISTS: usize = 13;
 
 /// How often the worker is started behind a request: for the operation, for what that resumed, and for what was resumed by this.
 const ROUNDS: u32 = 3;
@@ -196,26 +195,26 @@ fn played<L: Ledger, R: Wait + Clock>(
     play(alloc, &log, &mut host, list)
 }
 
-// Whether a manager takes the list at that place as it stands there.
-fn is_as_listed<L: Ledger, R: Wait + Clock>(
-    rt: &R,
-    alloc: Global,
-    blank: Blank,
-    place: usize,
-) -> Result<bool, Status>
-    requires blank { IsBlankOf blank.name blank.parts L.name L.parts }
-{
-    let Some(list) = ORDER.trim().split("\n\n").nth(place) else {
-        return Ok(false);
-    };
-    let told = played::<L, R>(rt, alloc, blank, list)?;
-    Ok(told.as_str().trim_end() == list)
+// The lists that come out otherwise, as they do.
+fn differing(rt: &HostRuntime, lists: &str) -> Result<String, Status> {
+    let mut differing = String::new(rt.alloc());
+    for list in lists.trim().split("\n\n") {
+        let told = played::<Brand, _>(rt, rt.alloc(), Blank::new(PARTS), list)?;
+        if told.as_str().trim_end() != list {
+            differing.push_str(told.as_str())?;
+        }
+    }
+    Ok(differing)
 }
 
 #[test]
-fn order_of_callbacks(rt: HostRuntime) {
-    for place in 0..LISTS {
-        let seen = is_as_listed::<Brand, _>(&rt, rt.alloc(), Blank::new(PARTS), place);
-        assert!(rt; matches!(seen, Ok(true)));
-    }
+fn order_of_callbacks(rt: HostRuntime) -> Result<(), Fail> {
+    assert_eq!(rt; differing(&rt, ORDER)?.as_str(), "");
+    Ok(())
+}
+
+#[test]
+fn order_of_random_lists(rt: HostRuntime) -> Result<(), Fail> {
+    assert_eq!(rt; differing(&rt, RANDOM)?.as_str(), "");
+    Ok(())
 }

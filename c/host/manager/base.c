@@ -38,11 +38,11 @@ static void answer(KzOp *op, NTSTATUS status, const uint8_t *bytes, size_t lengt
     kazdrin_based(&kz.manager, &event, length ? bytes : (const uint8_t *)"", length);
 }
 
-/* A filter may have changed where it is, or how long. */
+/* A filter may have changed where it is, or how long. A request's own paging I/O is as it says. */
 static bool is_unaligned(const KzOp *op, const KazdrinData *call)
 {
     bool is_write = call->operation == KZE_WRITE, is_data = is_write || call->operation == KZE_READ;
-    bool is_uncached = op->own.irp_flags & (IRP_NOCACHE | IRP_PAGING_IO) || op->file->object.Flags & FO_NO_INTERMEDIATE_BUFFERING;
+    bool is_uncached = kz_is_for_cache(op) || (op->file->object.Flags & FO_NO_INTERMEDIATE_BUFFERING && !(op->own.irp_flags & IRP_PAGING_IO));
     return is_data && is_uncached && !kz_is_in_sectors(op->file, call->offset, is_write ? call->length : call->len);
 }
 

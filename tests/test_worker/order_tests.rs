@@ -196,10 +196,10 @@ fn played<L: Ledger, R: Wait + Clock>(
 }
 
 // The lists that come out otherwise, as they do.
-fn differing(rt: &HostRuntime, lists: &str) -> Result<String, Status> {
-    let mut differing = String::new(rt.alloc());
+fn differing<R: Wait + Clock>(rt: &R, alloc: Global, lists: &str) -> Result<String, Status> {
+    let mut differing = String::new(alloc);
     for list in lists.trim().split("\n\n") {
-        let told = played::<Brand, _>(rt, rt.alloc(), Blank::new(PARTS), list)?;
+        let told = played::<Brand, _>(rt, alloc, Blank::new(PARTS), list)?;
         if told.as_str().trim_end() != list {
             differing.push_str(told.as_str())?;
         }
@@ -209,12 +209,12 @@ fn differing(rt: &HostRuntime, lists: &str) -> Result<String, Status> {
 
 #[test]
 fn order_of_callbacks(rt: HostRuntime) -> Result<(), Fail> {
-    assert_eq!(rt; differing(&rt, ORDER)?.as_str(), "");
+    assert_eq!(rt; differing(&rt, rt.alloc(), ORDER)?.as_str(), "");
     Ok(())
 }
 
 #[test]
 fn order_of_random_lists(rt: HostRuntime) -> Result<(), Fail> {
-    assert_eq!(rt; differing(&rt, RANDOM)?.as_str(), "");
+    assert_eq!(rt; differing(&rt, rt.alloc(), RANDOM)?.as_str(), "");
     Ok(())
 }

@@ -195,10 +195,13 @@ fn played<L: Ledger, R: Wait + Clock>(
     play(alloc, &log, &mut host, list)
 }
 
-// The lists that come out otherwise, as they do.
+// The lists that come out otherwise, as they do. A synchronized postoperation is for the worker of its preoperation, which would wait for it meanwhile, and here one thread is all of them.
 fn differing<R: Wait + Clock>(rt: &R, alloc: Global, lists: &str) -> Result<String, Status> {
     let mut differing = String::new(alloc);
     for list in lists.trim().split("\n\n") {
+        if list.contains("load sync\n") {
+            continue;
+        }
         let told = played::<Brand, _>(rt, alloc, Blank::new(PARTS), list)?;
         if told.as_str().trim_end() != list {
             differing.push_str(told.as_str())?;

@@ -114,6 +114,8 @@ static NTSTATUS get(KzOp *op, const FLT_PARAMETERS *now)
 {
     const KzBytes *kept = &op->file->name->file->reparse;
     ULONG room = now->FileSystemControl.Common.OutputBufferLength;
+    if (!room)
+        return STATUS_INVALID_USER_BUFFER;
     if (!kept->length)
         return STATUS_NOT_A_REPARSE_POINT;
     if (room < offsetof(REPARSE_DATA_BUFFER, GenericReparseBuffer))

@@ -140,6 +140,22 @@ NTSTATUS FltSetEaFile(PFLT_INSTANCE Instance, PFILE_OBJECT FileObject, PVOID EaB
     return ask(Instance, FileObject, &(KzAsked){.major = IRP_MJ_SET_EA, .input = EaBuffer, .input_size = Length, .irp_flags = IRP_BUFFERED_IO}, NULL, NULL, __func__);
 }
 
+NTSTATUS ZwQueryEaFile(HANDLE FileHandle, PIO_STATUS_BLOCK IoStatusBlock, PVOID Buffer, ULONG Length, BOOLEAN ReturnSingleEntry, PVOID EaList, ULONG EaListLength, PULONG EaIndex, BOOLEAN RestartScan)
+{
+    KZ_CALL();
+    (void)ReturnSingleEntry, (void)EaList, (void)EaListLength, (void)EaIndex, (void)RestartScan;
+    NTSTATUS status = ask_by_handle(FileHandle, IoStatusBlock, &(KzAsked){.major = IRP_MJ_QUERY_EA, .room = Length, .irp_flags = IRP_BUFFERED_IO}, Buffer, __func__);
+    if (status == STATUS_NO_EAS_ON_FILE && Buffer) /* the file system clears the caller's room first */
+        memset(Buffer, 0, Length);
+    return status;
+}
+
+NTSTATUS ZwSetEaFile(HANDLE FileHandle, PIO_STATUS_BLOCK IoStatusBlock, PVOID Buffer, ULONG Length)
+{
+    KZ_CALL();
+    return ask_by_handle(FileHandle, IoStatusBlock, &(KzAsked){.major = IRP_MJ_SET_EA, .input = Buffer, .input_size = Length, .irp_flags = IRP_BUFFERED_IO}, NULL, __func__);
+}
+
 static KzAsked security_query(SECURITY_INFORMATION what, ULONG room)
 {
     return (KzAsked){.major = IRP_MJ_QUERY_SECURITY, .code = what, .room = room};

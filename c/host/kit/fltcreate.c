@@ -27,6 +27,16 @@ typedef struct {
     bool is_volume; /* and nothing on it */
 } Named;
 
+/* Folders of the system, which hold names of devices: a separator behind one isn't a file's. */
+static bool is_of_system(const char *name)
+{
+    static const char *const folders[] = {"/?\?/", "/DosDevices/", "/GLOBAL?\?/", "/Device/", "//?/"};
+    for (size_t at = 0; at < sizeof folders / sizeof folders[0]; at++)
+        if (KzStricmp(name, folders[at]) == 0)
+            return true;
+    return false;
+}
+
 static NTSTATUS name_of(POBJECT_ATTRIBUTES attributes, Named *named)
 {
     char name[2000];
@@ -40,6 +50,8 @@ static NTSTATUS name_of(POBJECT_ATTRIBUTES attributes, Named *named)
         return STATUS_INVALID_HANDLE;
     if (!root && name[0] != '/')
         return STATUS_OBJECT_PATH_SYNTAX_BAD;
+    if (root ? name[0] == '/' : is_of_system(name))
+        return STATUS_OBJECT_NAME_INVALID;
     if (root)
         *named = (Named){.volume = root->volume};
     else

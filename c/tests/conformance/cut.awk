@@ -24,7 +24,7 @@ is_cut {
         }
     }
 }
-in_list && match($0, /^[ \t]*test_[A-Za-z_0-9]+\(.*\);[ \t]*$/) {
+in_list && match($0, /^[ \t]*[a-z_0-9]*test[A-Za-z_0-9]*\(.*\);[ \t]*$/) {
     line = $0
     sub(/^[ \t]*/, "", line)
     sub(/;[ \t]*$/, "", line)

@@ -31,7 +31,7 @@ wine_suite() {
     tell $? "$name"
 }
 
-[ $# -gt 0 ] || set -- rtlbitmap rtlstr rtl string large_int error time directory
+[ $# -gt 0 ] || set -- rtlbitmap rtlstr rtl string large_int error time directory file
 for suite in "$@"; do
     wine_suite "$suite"
 done

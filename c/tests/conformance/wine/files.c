@@ -330,11 +330,42 @@ NTSTATUS suite_close(HANDLE handle)
 /* A folder with some files. */
 UINT GetSystemDirectoryW(WCHAR *path, UINT size)
 {
-    static const WCHAR *const names[] = {L"C:\\system\\a.dll", L"C:\\system\\B.dll", L"C:\\system\\c", L"C:\\system\\d.e.f"};
-    UNREFERENCED_PARAMETER(size);
-    CreateDirectoryW(L"C:\\system", NULL);
+    static const WCHAR *const names[] = {L"C:\\windows\\system32\\a.dll", L"C:\\windows\\system32\\B.dll", L"C:\\windows\\system32\\c", L"C:\\windows\\system32\\cmd.exe"};
+    if (!size)
+        return 20;
+    CreateDirectoryW(L"C:\\windows", NULL);
+    CreateDirectoryW(L"C:\\windows\\system32", NULL);
     for (ULONG at = 0; at < RTL_NUMBER_OF(names); at++)
         ZwClose(CreateFileW(names[at], GENERIC_WRITE, 0, NULL, OPEN_ALWAYS, FILE_ATTRIBUTE_NORMAL, NULL));
-    wcscpy(path, L"C:\\system");
-    return 9;
+    wcscpy(path, L"C:\\windows\\system32");
+    return 19;
+}
+
+/* Programs map what the kernel's own sections don't: a test that does ends there. */
+HANDLE CreateFileMappingA(HANDLE file, PVOID security, DWORD protection, DWORD high, DWORD low, const char *name)
+{
+    UNREFERENCED_PARAMETER(file);
+    UNREFERENCED_PARAMETER(security);
+    UNREFERENCED_PARAMETER(protection);
+    UNREFERENCED_PARAMETER(high);
+    UNREFERENCED_PARAMETER(low);
+    UNREFERENCED_PARAMETER(name);
+    suite_missing("CreateFileMapping");
+    return NULL;
+}
+
+PVOID MapViewOfFile(HANDLE mapping, DWORD access, DWORD high, DWORD low, SIZE_T size)
+{
+    UNREFERENCED_PARAMETER(mapping);
+    UNREFERENCED_PARAMETER(access);
+    UNREFERENCED_PARAMETER(high);
+    UNREFERENCED_PARAMETER(low);
+    UNREFERENCED_PARAMETER(size);
+    return NULL;
+}
+
+BOOL UnmapViewOfFile(const void *view)
+{
+    UNREFERENCED_PARAMETER(view);
+    return FALSE;
 }

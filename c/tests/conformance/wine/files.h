@@ -43,6 +43,40 @@ BOOL suite_duplicate(HANDLE from, HANDLE *to);
 NTSTATUS suite_close(HANDLE handle);
 #define GetModuleFileNameA(module, path, size) 0
 UINT GetSystemDirectoryW(WCHAR *path, UINT size);
+typedef int IO_COMPLETION_INFORMATION_CLASS;
+typedef struct _FILE_IO_COMPLETION_INFORMATION FILE_IO_COMPLETION_INFORMATION;
+#define DoDeleteFile DeleteFile
+#define FILE_MAP_READ 4
+#define FILE_MAP_WRITE 2
+#define MAXDWORD 0xffffffff
+typedef struct {
+    DWORD dwFileAttributes;
+    WCHAR cFileName[MAX_PATH];
+} WIN32_FIND_DATAW;
+HANDLE CreateFileMappingA(HANDLE file, PVOID security, DWORD protection, DWORD high, DWORD low, const char *name);
+PVOID MapViewOfFile(HANDLE mapping, DWORD access, DWORD high, DWORD low, SIZE_T size);
+BOOL UnmapViewOfFile(const void *view);
+#define FindFirstFileW(path, found) (suite_missing("FindFirstFileW"), (HANDLE)0)
+#define FindNextFileW(find, found) 0
+#define FindClose(find) 0
+#define GetVolumeNameForVolumeMountPointW(path, name, size) (suite_missing("GetVolumeNameForVolumeMountPointW"), 0)
+#define GetQueuedCompletionStatus(port, done, key, at, time) (suite_missing("GetQueuedCompletionStatus"), 0)
+#define NtQueryInformationFile ZwQueryInformationFile
+#define NtSetInformationFile ZwSetInformationFile
+#define NtQueryVolumeInformationFile ZwQueryVolumeInformationFile
+#define NtCreateFile ZwCreateFile
+#define NtOpenFile ZwOpenFile
+#define NtClose ZwClose
+#define NtReadFile ZwReadFile
+#define NtWriteFile ZwWriteFile
+#define NtFsControlFile ZwFsControlFile
+#define NtDeviceIoControlFile ZwDeviceIoControlFile
+#define NtFlushBuffersFile ZwFlushBuffersFile
+#define CharLowerW(text) _wcslwr(text)
+#define SleepEx(time, alertable) 0
+#define Sleep(time) ((void)0)
+#define GetWindowsDirectoryW(path, size) (CreateDirectoryW(L"C:\\windows", NULL), wcscpy(path, L"C:\\windows"), 10)
+#define GetCurrentDirectoryW(size, path) (wcscpy(path, L"C:\\"), 3)
 #define WAIT_OBJECT_0 0
 #define WAIT_TIMEOUT 258
 #define INFINITE 0xffffffff

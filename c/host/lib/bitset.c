@@ -136,28 +136,23 @@ ULONG RtlFindClearBitsAndSet(PRTL_BITMAP BitMapHeader, ULONG NumberToFind, ULONG
     return found;
 }
 
-static ULONG next_run(PRTL_BITMAP map, ULONG from, PULONG start, bool is_set)
+static ULONG next_run(PRTL_BITMAP map, ULONG from, PULONG start)
 {
-    ULONG at = from < map->SizeOfBitMap ? from + run_at(map, from, !is_set) : map->SizeOfBitMap;
+    ULONG at = from < map->SizeOfBitMap ? from + run_at(map, from, true) : map->SizeOfBitMap;
     *start = at < map->SizeOfBitMap ? at : from;
-    return at < map->SizeOfBitMap ? run_at(map, at, is_set) : 0;
+    return at < map->SizeOfBitMap ? run_at(map, at, false) : 0;
 }
 
 ULONG RtlFindNextForwardRunClear(PRTL_BITMAP BitMapHeader, ULONG FromIndex, PULONG StartingRunIndex)
 {
-    return next_run(BitMapHeader, FromIndex, StartingRunIndex, false);
-}
-
-ULONG RtlFindNextForwardRunSet(PRTL_BITMAP BitMapHeader, ULONG FromIndex, PULONG StartingRunIndex)
-{
-    return next_run(BitMapHeader, FromIndex, StartingRunIndex, true);
+    return next_run(BitMapHeader, FromIndex, StartingRunIndex);
 }
 
 /* The first ones, or the longest, the longest first. */
-static ULONG find_runs(PRTL_BITMAP map, PRTL_BITMAP_RUN runs, ULONG room, bool is_longest, bool is_set)
+static ULONG find_runs(PRTL_BITMAP map, PRTL_BITMAP_RUN runs, ULONG room, bool is_longest)
 {
     ULONG count = 0, start, length;
-    for (ULONG at = 0; room && (is_longest || count < room) && (length = next_run(map, at, &start, is_set)) > 0; at = start + length) {
+    for (ULONG at = 0; room && (is_longest || count < room) && (length = next_run(map, at, &start)) > 0; at = start + length) {
         ULONG place = count;
         while (is_longest && place > 0 && runs[place - 1].NumberOfBits < length)
             place--;
@@ -172,30 +167,15 @@ static ULONG find_runs(PRTL_BITMAP map, PRTL_BITMAP_RUN runs, ULONG room, bool i
 
 ULONG RtlFindClearRuns(PRTL_BITMAP BitMapHeader, PRTL_BITMAP_RUN RunArray, ULONG SizeOfRunArray, BOOLEAN LocateLongestRuns)
 {
-    return find_runs(BitMapHeader, RunArray, SizeOfRunArray, LocateLongestRuns, false);
-}
-
-ULONG RtlFindSetRuns(PRTL_BITMAP BitMapHeader, PRTL_BITMAP_RUN RunArray, ULONG SizeOfRunArray, BOOLEAN LocateLongestRuns)
-{
-    return find_runs(BitMapHeader, RunArray, SizeOfRunArray, LocateLongestRuns, true);
-}
-
-static ULONG longest(PRTL_BITMAP map, PULONG start, bool is_set)
-{
-    RTL_BITMAP_RUN run = {0};
-    find_runs(map, &run, 1, true, is_set);
-    *start = run.StartingIndex;
-    return run.NumberOfBits;
+    return find_runs(BitMapHeader, RunArray, SizeOfRunArray, LocateLongestRuns);
 }
 
 ULONG RtlFindLongestRunClear(PRTL_BITMAP BitMapHeader, PULONG StartingIndex)
 {
-    return longest(BitMapHeader, StartingIndex, false);
-}
-
-ULONG RtlFindLongestRunSet(PRTL_BITMAP BitMapHeader, PULONG StartingIndex)
-{
-    return longest(BitMapHeader, StartingIndex, true);
+    RTL_BITMAP_RUN run = {0};
+    find_runs(BitMapHeader, &run, 1, true);
+    *StartingIndex = run.StartingIndex;
+    return run.NumberOfBits;
 }
 
 /* ---- Of one number. */

@@ -129,7 +129,7 @@ BOOLEAN RtlAreAnyAccessesGranted(ACCESS_MASK GrantedAccess, ACCESS_MASK DesiredA
 }
 
 /* ---- Numbers that look random: those of Lehmer's generator with the kit's two constants. */
-ULONG RtlUniform(PULONG Seed)
+static ULONG uniform(PULONG Seed)
 {
     kz_uses_all();
     *Seed = (ULONG)((*Seed * 0x7fffffedULL + 0x7fffffc3) % MAXLONG);
@@ -139,8 +139,8 @@ ULONG RtlUniform(PULONG Seed)
 /* What it answers isn't the seed that it leaves. */
 ULONG RtlRandomEx(PULONG Seed)
 {
-    ULONG made = RtlUniform(Seed);
-    RtlUniform(Seed);
+    ULONG made = uniform(Seed);
+    uniform(Seed);
     return made;
 }
 

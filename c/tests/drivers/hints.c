@@ -38,7 +38,7 @@ static VOID HintsLibrary(VOID)
     RtlInitializeBitMap(&bits, words, 40);
     RtlSetBits(&bits, 4, 3);
     RtlSetBits(&bits, 20, 9);
-    value = RtlFindLongestRunSet(&bits, &start);
+    value = RtlFindLongestRunClear(&bits, &start);
     DbgPrint("longest %lu at %lu, clear %lu, none %lx\n", value, start, RtlNumberOfClearBits(&bits), RtlFindSetBits(&bits, 10, 0));
     DbgPrint("0b101 0x%08x", RtlCharToInteger(" -0b101", 0, &value));
     DbgPrint(" %ld\n", (LONG)value);

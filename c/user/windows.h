@@ -401,6 +401,7 @@ int lstrlenW(LPCWSTR Text);
 #define MoveMemory(to, from, size) memmove((to), (from), (size))
 #define RtlZeroMemory ZeroMemory
 #define RtlCopyMemory CopyMemory
+#define RtlEqualMemory(one, other, size) (memcmp((one), (other), (size)) == 0)
 
 /* ---- The console. */
 #define FORMAT_MESSAGE_ALLOCATE_BUFFER 0x100

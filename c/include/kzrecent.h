@@ -161,6 +161,10 @@ typedef struct {
     ULONGLONG Timeout, BytesToWaitFor, UsnJournalID;
 } READ_USN_JOURNAL_DATA_V0, *PREAD_USN_JOURNAL_DATA_V0;
 typedef struct {
+    DWORDLONG StartFileReferenceNumber;
+    USN LowUsn, HighUsn;
+} MFT_ENUM_DATA_V0, *PMFT_ENUM_DATA_V0;
+typedef struct {
     USN StartUsn;
     ULONG ReasonMask, ReturnOnlyOnClose;
     ULONGLONG Timeout, BytesToWaitFor, UsnJournalID;

@@ -118,6 +118,16 @@ static NTSTATUS read_journal(KzOp *op, const Buffers *said)
     return status;
 }
 
+static NTSTATUS list_records(KzOp *op, const Buffers *said)
+{
+    size_t length = 0;
+    if (said->in_length < sizeof(MFT_ENUM_DATA_V0))
+        return STATUS_INVALID_PARAMETER;
+    NTSTATUS status = kz_list_records(op->volume, said->in, said->out, said->out_length, &length);
+    op->opaque->information = NT_SUCCESS(status) ? length : 0;
+    return status;
+}
+
 static NTSTATUS query_journal(KzOp *op, const Buffers *to)
 {
     USN_JOURNAL_DATA_V0 said;
@@ -149,6 +159,8 @@ NTSTATUS kz_control_file(KzOp *op, const FLT_PARAMETERS *now)
         return volume_data(op, &buffers);
     if (code == FSCTL_QUERY_USN_JOURNAL && op->volume->type == FLT_FSTYPE_NTFS)
         return query_journal(op, &buffers);
+    if (code == FSCTL_ENUM_USN_DATA && op->volume->type == FLT_FSTYPE_NTFS)
+        return list_records(op, &buffers);
     if (code == FSCTL_READ_USN_JOURNAL && op->volume->type == FLT_FSTYPE_NTFS)
         return read_journal(op, &buffers);
     if (!op->file->name)

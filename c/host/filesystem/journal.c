@@ -160,6 +160,43 @@ NTSTATUS kz_read_journal(PFLT_VOLUME volume, const READ_USN_JOURNAL_DATA_V0 *ask
     return STATUS_SUCCESS;
 }
 
+/* The first file of the volume, from that number on, whose last change lies between the two. */
+static const KzName *next_file(PFLT_VOLUME volume, const MFT_ENUM_DATA_V0 *asked, uint64_t from)
+{
+    const KzName *found = NULL;
+    for (const KzName *one = kz_all_names(); one; one = one->next) {
+        const KzRecord *file = one->file;
+        bool is_listed = one->volume == volume && !one->base && !one->is_gone && *one->text && file->exists && file->usn >= asked->LowUsn && file->usn <= asked->HighUsn;
+        if (is_listed && file->id >= from && (!found || file->id < found->file->id))
+            found = one;
+    }
+    return found;
+}
+
+/* The files by their numbers, from one on, as many as there is room for, behind the number with which to go on. */
+NTSTATUS kz_list_records(PFLT_VOLUME volume, const MFT_ENUM_DATA_V0 *asked, uint8_t *to, size_t room, size_t *length)
+{
+    uint8_t record[LARGEST_RECORD];
+    uint64_t next = asked->StartFileReferenceNumber;
+    *length = sizeof next;
+    if (room < sizeof next)
+        return STATUS_BUFFER_TOO_SMALL;
+    const KzName *one = next_file(volume, asked, next);
+    if (!one)
+        return STATUS_END_OF_FILE;
+    for (; one; one = next_file(volume, asked, next)) {
+        size_t size = kz_journal_record(one, record);
+        next = one->file->id;
+        if (*length + size > room)
+            break;
+        memcpy(to + *length, record, size);
+        *length += size;
+        next++;
+    }
+    memcpy(to, &next, sizeof next);
+    return STATUS_SUCCESS;
+}
+
 static void free_journal(void)
 {
     for (size_t at = 0; at < sizeof kz.journal->volumes / sizeof kz.journal->volumes[0]; at++)

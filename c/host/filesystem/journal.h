@@ -19,5 +19,7 @@ size_t kz_journal_record(const KzName *name, uint8_t *to);
 /* FSCTL_QUERY_USN_JOURNAL, and FSCTL_READ_USN_JOURNAL. */
 void kz_query_journal(PFLT_VOLUME volume, USN_JOURNAL_DATA_V0 *to);
 NTSTATUS kz_read_journal(PFLT_VOLUME volume, const READ_USN_JOURNAL_DATA_V0 *asked, uint8_t *to, size_t room, size_t *length);
+/* FSCTL_ENUM_USN_DATA. */
+NTSTATUS kz_list_records(PFLT_VOLUME volume, const MFT_ENUM_DATA_V0 *asked, uint8_t *to, size_t room, size_t *length);
 
 #endif

@@ -11,8 +11,8 @@
 #include <sys/mman.h>
 
 enum { STACK = 1 << 18, BELOW = 1 << 12 };
-/* Of a client that goes on and on: after so many steps of its own others go first; so many accesses between two calls of the kit; so often in vain where nobody else can go on. */
-enum { IN_A_ROW = 400, ACCESSES = 200, ALONE = 300 };
+/* Of a client that goes on and on: after so many steps of its own others go first, if some can; so many accesses between two calls of the kit; so often in vain where nobody else can go on. */
+enum { MANY = 400, ACCESSES = 200, ALONE = 300 };
 #define STACKS 0x20000000000UL
 
 Runner ex_runners[RUNNERS + 1];
@@ -135,13 +135,12 @@ static void note_step(int client)
         siglongjmp(ex->run.out, 1);
     }
     ex->schedule.steps[ex->schedule.length++] = (uint8_t)client;
-    ex->run.patience[client].in_a_row++;
     for (int at = 1; at <= ex->run.runners_count; at++) {
         if (at == client)
             continue;
         ex_runners[at].owes &= ~(1U << client);
         ex_runners[at].has_moved |= ex_runners[at].yields;
-        ex->run.patience[at].in_a_row = ex->run.patience[at].alone = 0;
+        ex->run.patience[at].alone = 0;
         if (!ex->search.is_thinned)
             forget_looks(at);
     }
@@ -268,6 +267,7 @@ static bool wait(KzCan *can, void *what, const char *text)
 static void owe_all(Runner *me)
 {
     me->owes = 0;
+    me->is_long = false;
     for (int at = 1; at <= ex->run.runners_count; at++)
         if (&ex_runners[at] != me && ex_runners[at].state != ENDED && !is_finally(&ex_runners[at]))
             me->owes |= 1U << at;
@@ -342,8 +342,14 @@ static void stand(Runner *me, const char *name, const void *from)
     me->at = name;
     me->from = from;
     ex_note_seen((uintptr_t)name ^ (uintptr_t)from << 1);
-    if (++ex->run.patience[me->client->number].in_a_row % IN_A_ROW == 0)
+    if (++ex->run.patience[me->client->number].steps % MANY == 0 && !me->owes) {
         owe_all(me);
+        me->is_long = true;
+    }
+    if (me->is_long && !can_others(me)) {
+        me->owes = 0;
+        me->is_long = false;
+    }
     if (me->owes && (!has_let_others(me) || !can_others(me))) {
         yield(me, from);
         return;
@@ -499,7 +505,7 @@ static void make(Runner *one, int number, void (*life)(void))
     one->can = kz_can_run;
     one->at = "the start";
     one->owes = 0;
-    one->yields = false;
+    one->yields = one->is_long = false;
 }
 
 /* ---- Threads beside the clients. Those that began in the set-up have a stack by then, which isn't in the image. */

@@ -34,6 +34,7 @@ typedef struct {
     bool has_begun, is_worker, timed_out;
     uint32_t owes;                /* clients that go first, where it has looked again and again: a bit for each */
     bool yields, has_moved;       /* it lets them go; another went since */
+    bool is_long;                 /* they go first since it went on for long, and not in vain */
     bool is_fresh;                /* it has begun, and done nothing yet */
     int like;                     /* the first client with the same lines */
     KzThread *thread;             /* of a thread beside the clients */
@@ -77,7 +78,7 @@ typedef struct {
     bool has_looked;
     unsigned accesses; /* points at memory since its last call of the kit */
     unsigned points;   /* that it came to: a request that is refused at once has none behind its own */
-    unsigned in_a_row; /* steps since another's */
+    unsigned steps;    /* of its own */
     unsigned alone;    /* how often it went on in vain, since nobody else could */
 } Patience;
 

@@ -80,17 +80,18 @@ bool ex_is_program(const void *address)
 }
 
 /* ---- The C library's calls. The manager's tables grow for whoever comes to their end: they lie behind what the set-up has, so that no client's addresses depend on who came before it. */
-extern const char rattle_alloc[] __attribute__((weak));
+extern const char rattle_alloc[] __attribute__((weak)), rattle_realloc[] __attribute__((weak));
 
 static bool is_managers(const void *caller)
 {
-    return rattle_alloc && (uintptr_t)caller - (uintptr_t)rattle_alloc < CALLS;
+    uintptr_t at = (uintptr_t)caller;
+    return rattle_alloc && (at - (uintptr_t)rattle_alloc < CALLS || at - (uintptr_t)rattle_realloc < CALLS);
 }
 
-void *malloc(size_t size)
+static void *allocate(size_t size, const void *caller)
 {
     ex_open_memory();
-    unsigned client = image && image->is_taken && !is_managers(__builtin_return_address(0)) ? kz_me->number : 0; /* what threads allocate in the set-up is of the image */
+    unsigned client = image && image->is_taken && !is_managers(caller) ? kz_me->number : 0; /* what threads allocate in the set-up is of the image */
     size_t room = (sizeof(Head) + size + 15) & ~(size_t)15;
     Head *head = (Head *)next[client];
     if (room < size || (size_t)(next[client] - arena(client)) + room > ARENA) {
@@ -102,6 +103,11 @@ void *malloc(size_t size)
         memset(head, 0, room);
     head->size = size;
     return head + 1;
+}
+
+void *malloc(size_t size)
+{
+    return allocate(size, __builtin_return_address(0));
 }
 
 /* It isn't used again. Two states aren't to differ by what lay there. */
@@ -116,13 +122,13 @@ void *calloc(size_t count, size_t size)
     size_t whole;
     if (__builtin_mul_overflow(count, size, &whole))
         return NULL;
-    void *made = malloc(whole);
+    void *made = allocate(whole, __builtin_return_address(0));
     return made ? memset(made, 0, whole) : NULL;
 }
 
 void *realloc(void *memory, size_t size)
 {
-    void *made = malloc(size);
+    void *made = allocate(size, __builtin_return_address(0));
     if (made && memory) {
         size_t before = ((Head *)memory - 1)->size;
         memcpy(made, memory, before < size ? before : size);
@@ -133,7 +139,7 @@ void *realloc(void *memory, size_t size)
 
 static void *aligned(size_t alignment, size_t size)
 {
-    char *made = malloc(size + alignment + sizeof(Head));
+    char *made = allocate(size + alignment + sizeof(Head), NULL);
     if (!made)
         return NULL;
     char *at = (char *)(((uintptr_t)made + sizeof(Head) + alignment - 1) & ~(uintptr_t)(alignment - 1));

@@ -42,6 +42,7 @@ KzCache *kz_cache_with(const SECTION_OBJECT_POINTERS *pointers)
 static KzCache *new_cache(KzFile *holder)
 {
     KzStream *stream = kz_seen_stream(holder);
+    kz_uses_all();
     KzCache *made = kz_memory(sizeof *made);
     *made = (KzCache){.next = kz.cache->first, .stream = stream, .holder = holder, .told = stream->valid};
     stream->cache = kz.cache->first = made;
@@ -61,6 +62,7 @@ KzCache *kz_begin_cache(KzFile *file)
     bool is_late = file->object.Flags & FO_CLEANUP_COMPLETE;
     if (!cache || is_late || file->object.PrivateCacheMap)
         return cache;
+    kz_uses_all();
     file->object.PrivateCacheMap = cache;
     cache->maps++;
     return cache;
@@ -69,6 +71,7 @@ KzCache *kz_begin_cache(KzFile *file)
 void kz_end_cache(KzCache *cache)
 {
     KzFile *holder = cache->holder;
+    kz_uses_all();
     KzCache **at = &kz.cache->first;
     while (*at != cache)
         at = &(*at)->next;

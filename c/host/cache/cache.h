@@ -3,6 +3,7 @@
 #define KZ_CACHE_CACHE_H
 
 #include "host.h"
+#include "core/client.h"
 #include "filesystem/tree.h"
 
 /* One paging read or write has up to a cluster of pages, as the lazy writer's have in the kit. */
@@ -95,6 +96,15 @@ unsigned kz_dirty_run(const KzCache *cache, uint64_t *first, uint64_t end);
 bool kz_has_dirty(const KzCache *cache);
 /* Pages go, but for those that come or are written; false if there are some of these. */
 bool kz_forget_pages(KzCache *cache, uint64_t first, uint64_t end);
+
+/* ---- What is touched of a cache. Who makes one, ends one or has a view touches everything; so do its handles as they begin to cache, and end. */
+void kz_uses_page(const KzCache *cache, uint64_t number, KzUse how);
+void kz_reads_pages(const KzCache *cache, uint64_t first, uint64_t end);
+/* Which pages there are; which are written: who waits for several of them looks at all. */
+void kz_uses_table(const KzCache *cache, KzUse how);
+void kz_uses_writes(const KzCache *cache, KzUse how);
+/* Another may go on here: if the client has the lock that is seen. */
+void kz_keeps_lock(const KzCache *cache);
 static inline uint64_t kz_pages_of(uint64_t bytes)
 {
     return (bytes + KZ_PAGE - 1) / KZ_PAGE;

@@ -10,6 +10,9 @@ static bool are_there(const KzCache *cache, uint64_t first, uint64_t end)
 {
     for (; first < end; first++) {
         const KzCachedPage *page = kz_page_of(cache, first);
+        kz_uses_page(cache, first, KZU_READS);
+        if (!page)
+            kz_uses_table(cache, KZU_READS);
         if (!page || page->state == KZG_COMING)
             return false;
     }
@@ -42,6 +45,9 @@ NTSTATUS kz_read_pages(KzCache *cache, uint64_t offset, uint8_t *to, size_t leng
 static NTSTATUS get_ready(KzCache *cache, uint64_t number, bool is_whole, PIRP top)
 {
     bool is_there = kz_page_of(cache, number) != NULL;
+    kz_uses_page(cache, number, KZU_READS);
+    kz_uses_table(cache, KZU_READS);
+    kz_scheduler->uses(&cache->stream->size, KZU_READS);
     if (is_there || !(is_whole || number * KZ_PAGE >= cache->stream->valid))
         return kz_bring_pages(cache, number, number + 1, top);
     kz_make_cached_page(cache, number, KZG_CLEAN);
@@ -71,6 +77,7 @@ NTSTATUS kz_write_pages(KzCache *cache, uint64_t offset, const uint8_t *from, si
         return status;
     for (size_t part; length; offset += part, from += part, length -= part) {
         KzCachedPage *page = kz_page_of(cache, offset / KZ_PAGE);
+        kz_uses_page(cache, page->number, KZU_WRITES);
         part = part_of(offset, length);
         memcpy(page->bytes + offset % KZ_PAGE, from, part);
         kz_soil_page(page);
@@ -92,6 +99,8 @@ NTSTATUS kz_zero_pages(KzCache *cache, uint64_t offset, PIRP top)
         if (!NT_SUCCESS(status))
             return status;
         KzCachedPage *page = kz_page_of(cache, *valid / KZ_PAGE);
+        kz_uses_page(cache, page->number, KZU_WRITES);
+        kz_scheduler->uses(&cache->stream->size, KZU_WRITES);
         memset(page->bytes + *valid % KZ_PAGE, 0, part);
         kz_soil_page(page);
         kz_show_page(cache, page);

@@ -22,8 +22,13 @@ static bool has_come(void *given)
 static bool wait_for(const KzCache *cache, uint64_t number)
 {
     Page page = {cache, number};
-    kz_me->is_known = false;
-    if (kz_wait(has_come, &page, "page %llu of \\%s, which is read", (unsigned long long)number, cache->holder->path))
+    kz_me->is_known &= kz_me->is_paging;
+    kz_keeps_lock(cache);
+    kz_uses_page(cache, number, KZU_READS);
+    bool is_over = kz_wait(has_come, &page, "page %llu of \\%s, which is read", (unsigned long long)number, cache->holder->path);
+    kz_keeps_lock(cache);
+    kz_uses_page(cache, number, KZU_READS);
+    if (is_over)
         return true;
     kz_tell(KZM_PAGE_WAITS, "paging I/O", "page %llu of \\%s is read by an operation that waits for this one: it waits for ever", (unsigned long long)number, cache->holder->path);
     return false;
@@ -33,9 +38,11 @@ static bool wait_for(const KzCache *cache, uint64_t number)
 static void take_pages(KzCache *cache, uint64_t first, unsigned count, size_t there)
 {
     uint64_t begin = first * KZ_PAGE, size = cache->stream->size, rest = size > begin ? size - begin : 0;
+    kz_scheduler->uses(&cache->stream->size, KZU_READS);
     there = there < rest ? there : (size_t)rest;
     for (unsigned at = 0; at < count; at++) {
         KzCachedPage *page = kz_page_of(cache, first + at);
+        kz_uses_page(cache, first + at, KZU_WRITES);
         size_t from = at * (size_t)KZ_PAGE, part = there > from ? there - from : 0;
         memcpy(page->bytes, kz_me->room + from, part < KZ_PAGE ? part : KZ_PAGE);
         page->state = KZG_CLEAN;
@@ -55,7 +62,9 @@ static NTSTATUS bring(KzCache *cache, uint64_t first, unsigned count)
     for (unsigned at = 0; at < count; at++)
         kz_make_cached_page(cache, first + at, KZG_COMING);
     const KzPaging asked = {.offset = begin, .length = (uint32_t)length, .flags = IRP_PAGING_IO | IRP_NOCACHE | IRP_SYNCHRONOUS_PAGING_IO};
+    kz_keeps_lock(cache);
     NTSTATUS status = kz.store->page(cache->holder, &asked, &there);
+    kz_keeps_lock(cache);
     kz.changes++;
     if (!NT_SUCCESS(status) && status != STATUS_END_OF_FILE) {
         drop_pages(cache, first, count);
@@ -71,6 +80,8 @@ NTSTATUS kz_bring_pages(KzCache *cache, uint64_t first, uint64_t end, PIRP top)
     KzAsker before = kz_ask_as(kz_me->top_level ? kz_me->top_level : top, false);
     while (first < end && NT_SUCCESS(status)) {
         unsigned count = 0;
+        kz_uses_table(cache, KZU_READS);
+        kz_uses_page(cache, first, KZU_READS);
         while (count < KZ_CLUSTER && first + count < end && !kz_page_of(cache, first + count))
             count++;
         if (count)

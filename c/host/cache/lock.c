@@ -42,12 +42,23 @@ static void sit_down(const Wanted *wanted)
     cache->users++;
 }
 
+void kz_keeps_lock(const KzCache *cache)
+{
+    if (seat_of(cache, kz_me) < KZ_SEATS)
+        kz_scheduler->uses(cache->seats, KZU_WRITES);
+}
+
+/* Who lets go of it in the same step only looks whether it is free. */
 bool kz_lock_stream(KzCache *cache, bool is_alone)
 {
     Wanted wanted = {cache, kz_me, is_alone};
-    kz_me->is_known = false;
+    kz_me->is_known &= kz_me->is_paging;
     cache->users++;
+    kz_keeps_lock(cache);
+    kz_scheduler->uses(cache->seats, KZU_READS);
     bool has_it = kz_wait(is_free, &wanted, "the file system's lock of \\%s", cache->holder->path);
+    kz_scheduler->uses(cache->seats, KZU_READS);
+    kz_keeps_lock(cache);
     cache->users--;
     if (has_it)
         sit_down(&wanted);

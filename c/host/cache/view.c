@@ -138,6 +138,8 @@ bool kz_is_in_view(const KzCache *cache, uint64_t number)
 
 void kz_show_page(const KzCache *cache, const KzCachedPage *page)
 {
+    if (cache->mapped)
+        kz_uses_all();
     for (const KzMapped *one = cache->mapped; one; one = one->next)
         if (has_page(one, page->number) && !one->is_copy)
             memcpy(one->bytes + (page->number - one->first) * KZ_PAGE, page->bytes, KZ_PAGE);
@@ -190,6 +192,8 @@ NTSTATUS kz_touch_pages(KzCache *cache, uint64_t offset, const uint8_t *bytes, s
 
 void kz_take_views(KzCache *cache)
 {
+    if (cache->mapped)
+        kz_uses_all();
     for (KzMapped *one = cache->mapped; one; one = one->next)
         for (uint64_t at = 0; one->is_written && at < one->count; at++) {
             KzCachedPage *page = kz_page_of(cache, one->first + at);

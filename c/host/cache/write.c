@@ -16,15 +16,19 @@
 static void ask_filters(KzCache *cache, UCHAR major, NTSTATUS *status)
 {
     const KzAsked asked = {.major = major, .data_flags = FLTFL_CALLBACK_DATA_FS_FILTER_OPERATION};
+    kz_keeps_lock(cache);
     *status = kz.store->ask(cache->holder, &asked);
+    kz_keeps_lock(cache);
 }
 
 /* ---- Runs of pages. */
 static uint8_t *take_run(KzCache *cache, uint64_t first, unsigned count)
 {
     uint8_t *bytes = kz_memory(count * (size_t)KZ_PAGE);
+    kz_uses_writes(cache, KZU_WRITES);
     for (unsigned at = 0; at < count; at++) {
         KzCachedPage *page = kz_page_of(cache, first + at);
+        kz_uses_page(cache, page->number, KZU_WRITES);
         memcpy(bytes + at * (size_t)KZ_PAGE, page->bytes, KZ_PAGE);
         page->state = KZG_CLEAN; /* what is written to it meanwhile is to be written again */
         page->is_going = true;
@@ -35,8 +39,11 @@ static uint8_t *take_run(KzCache *cache, uint64_t first, unsigned count)
 /* What couldn't be written stays dirty, if the file still has it. */
 static void end_run(KzCache *cache, uint64_t first, unsigned count, bool is_written)
 {
+    kz_uses_writes(cache, KZU_WRITES);
+    kz_scheduler->uses(&cache->stream->size, KZU_READS);
     for (unsigned at = 0; at < count; at++) {
         KzCachedPage *page = kz_page_of(cache, first + at);
+        kz_uses_page(cache, first + at, KZU_WRITES);
         page->is_going = false;
         if (!is_written && page->state == KZG_CLEAN && (first + at) * KZ_PAGE < cache->stream->size) {
             bool is_by_view = page->is_by_view;
@@ -53,7 +60,9 @@ static NTSTATUS write_run(KzCache *cache, uint64_t first, unsigned count, ULONG 
     uint8_t *bytes = take_run(cache, first, count);
     uint64_t written = 0;
     const KzPaging asked = {.is_write = true, .offset = first * KZ_PAGE, .bytes = bytes, .length = count * (uint32_t)KZ_PAGE, .flags = IRP_PAGING_IO | IRP_NOCACHE | flags};
+    kz_keeps_lock(cache);
     NTSTATUS status = kz.store->page(cache->holder, &asked, &written);
+    kz_keeps_lock(cache);
     free(bytes);
     end_run(cache, first, count, NT_SUCCESS(status));
     return status;
@@ -93,8 +102,13 @@ static bool are_out(void *given)
 static bool wait_until_out(const KzCache *cache, uint64_t first, uint64_t end)
 {
     Range range = {cache, first, end};
-    kz_me->is_known = false;
-    if (kz_wait(are_out, &range, "pages of \\%s, which are written", cache->holder->path))
+    kz_me->is_known &= kz_me->is_paging;
+    kz_keeps_lock(cache);
+    kz_uses_writes(cache, KZU_READS);
+    bool is_over = kz_wait(are_out, &range, "pages of \\%s, which are written", cache->holder->path);
+    kz_keeps_lock(cache);
+    kz_uses_writes(cache, KZU_READS);
+    if (is_over)
         return true;
     kz_tell(KZM_PAGE_WAITS, "paging I/O", "pages of \\%s are written by an operation that waits for this one: it waits for ever", cache->holder->path);
     return false;
@@ -124,6 +138,7 @@ NTSTATUS kz_flush_cache(KzCache *cache, uint64_t from, uint64_t length)
     Range range = {cache, first, end};
     NTSTATUS status, ignored;
     kz_take_views(cache);
+    kz_uses_writes(cache, KZU_READS);
     if (!kz_dirty_run(cache, &at, end) && are_out(&range))
         return STATUS_SUCCESS;
     KzAsker before = kz_ask_as(kz_me->top_level ? kz_me->top_level : KZ_TOP_REQUEST, false);
@@ -133,8 +148,11 @@ NTSTATUS kz_flush_cache(KzCache *cache, uint64_t from, uint64_t length)
         status = flush_locked(cache, first, end);
         ask_filters(cache, IRP_MJ_RELEASE_FOR_CC_FLUSH, &ignored);
     }
-    if (NT_SUCCESS(status) && !length)
+    if (NT_SUCCESS(status) && !length) {
+        kz_uses_writes(cache, KZU_WRITES);
+        kz_scheduler->uses(&cache->stream->size, KZU_READS);
         cache->told = cache->stream->valid;
+    }
     cache->users--;
     kz_ask_again(&before);
     return status;
@@ -196,10 +214,14 @@ static void advance(KzCache *cache)
 {
     const FILE_END_OF_FILE_INFORMATION end = {.EndOfFile.QuadPart = (LONGLONG)cache->stream->valid};
     const KzAsked asked = {.major = IRP_MJ_SET_INFORMATION, .code = FileEndOfFileInformation, .input = &end, .input_size = sizeof end, .irp_flags = IRP_PAGING_IO | IRP_SYNCHRONOUS_PAGING_IO, .advances = true};
+    kz_uses_writes(cache, KZU_WRITES);
+    kz_scheduler->uses(&cache->stream->size, KZU_READS);
     if (cache->stream->valid <= cache->told)
         return;
     cache->told = cache->stream->valid;
+    kz_keeps_lock(cache);
     kz.store->ask(cache->holder, &asked);
+    kz_keeps_lock(cache);
 }
 
 /* What can't be written now is due again a second later. */
@@ -215,6 +237,7 @@ static NTSTATUS write_modified(KzCache *cache)
 {
     NTSTATUS status = STATUS_SUCCESS, ignored;
     bool is_any = false;
+    kz_reads_pages(cache, 0, UINT64_MAX);
     for (size_t at = 0; at < cache->count; at++)
         is_any |= cache->pages[at].state == KZG_DIRTY && cache->pages[at].is_by_view;
     if (!is_any)
@@ -259,7 +282,10 @@ void kz_write_modified(KzCache *cache)
 
 void kz_end_idle_cache(KzCache *cache)
 {
-    if (!cache->maps && !cache->views && !cache->users && !kz_has_dirty(cache))
+    if (cache->maps || cache->views)
+        return;
+    kz_uses_all();
+    if (!cache->users && !kz_has_dirty(cache))
         kz_end_cache(cache);
 }
 
@@ -276,6 +302,7 @@ static LONGLONG due_of(const KzCache *cache)
 static KzCache *next_of(unsigned round, bool is_all)
 {
     KzCache *one = kz_first_cache();
+    kz_scheduler->uses(kz.cache, KZU_WRITES);
     while (one && (one->round == round || (!is_all && due_of(one) > kz.passed)))
         one = one->next;
     return one;
@@ -287,7 +314,8 @@ static void write_caches(bool is_all, bool waits)
     unsigned round = kz_next_round();
     while ((one = next_of(round, is_all))) {
         one->round = round;
-        kz_uses_all();
+        if (!kz_me->is_paging)
+            kz_uses_all();
         kz_take_views(one);
         if (kz_has_dirty(one))
             write_out(one, waits);
@@ -297,7 +325,11 @@ static void write_caches(bool is_all, bool waits)
 
 void kz_write_lazily(bool is_all)
 {
+    bool before = kz_me->is_paging;
+    kz_uses_own();
+    kz_me->is_paging = is_all;
     write_caches(is_all, kz_has_others());
+    kz_me->is_paging = before;
 }
 
 /* A second after a page was changed it is due. */

@@ -27,7 +27,7 @@ void kz_new_client(KzClient *client, const char *name, unsigned number)
     client->thread = 104 + 4 * number;
     client->top_level = NULL;
     client->inside = 0;
-    client->is_known = client->is_detaching = false;
+    client->is_known = client->is_detaching = client->is_paging = false;
     client->number = number;
     client->is_last = false;
     client->timeout = 0;

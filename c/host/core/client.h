@@ -59,6 +59,7 @@ struct KzClient {
     unsigned number;
     bool is_known; /* what it touches inside the host, since it came in: that which is said, and no more */
     bool is_detaching; /* its request is a detach, and what that touches is said */
+    bool is_paging; /* what it touches of caches is said, and it waits for nothing else */
     bool is_last; /* it goes on where no other can: what it expects is looked at */
     struct {
         char name[24];

@@ -129,7 +129,7 @@ static void add(Held one)
 {
     if (kz.held->count == kz.held->room) {
         size_t room = kz.held->room ? 2 * kz.held->room : FEW;
-        Held *larger = kz_memory(room * sizeof *larger);
+        Held *larger = kz_common_memory(room * sizeof *larger);
         if (kz.held->count)
             memcpy(larger, kz.held->all, kz.held->count * sizeof *larger);
         free(kz.held->all);

@@ -30,7 +30,7 @@ static const uint8_t *page_at(const KzPages *pages, uint64_t number)
 static void grow(KzPages *pages)
 {
     size_t room = pages->room * 2 + 4;
-    KzPage *all = kz_memory(room * sizeof *all);
+    KzPage *all = kz_common_memory(room * sizeof *all);
     if (pages->count)
         memcpy(all, pages->all, pages->count * sizeof *all);
     free(pages->all);

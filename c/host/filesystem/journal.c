@@ -2,6 +2,7 @@
  * its place among the bytes of all. */
 #include "filesystem/journal.h"
 
+#include "core/client.h"
 #include "core/clock.h"
 #include "core/memory.h"
 #include "core/module.h"
@@ -59,6 +60,7 @@ static void put(const KzName *name, ULONG reason)
     KzRecord *record = name->file;
     record->usn = kz.journal->volumes[at].next;
     size_t length = fill(name, record->usn, reason, room);
+    kz_scheduler->uses(&kz.journal->volumes[at], KZU_WRITES);
     Kept *made = kz_memory(sizeof *made);
     made->record = kz_memory(length);
     memcpy(made->record, room, length);

@@ -138,6 +138,14 @@ static KzFolderAnswer call_memory(const KzFile *file, const KazdrinData *call, c
     return (KzFolderAnswer){.status = KZS_OK};
 }
 
+void kz_uses_stream(const KzName *name, KzUse how)
+{
+    kz_scheduler->uses(&name->stream->size, how);
+    kz_scheduler->uses(name->file, how);
+    if (name->stream->views)
+        kz_uses_all();
+}
+
 KzFolderAnswer kz_call_stream(KzFile *file, const KazdrinData *call, const uint8_t *bytes, uint8_t *room)
 {
     const KzName *name = file->name;
@@ -191,8 +199,7 @@ void kz_note_size(const KzFile *file, uint64_t size)
 
 static NTSTATUS change(KzFile *file, const KazdrinData *call, const uint8_t *bytes)
 {
-    kz_scheduler->uses(&file->name->stream->size, KZU_WRITES);
-    kz_scheduler->uses(file->name->file, KZU_WRITES);
+    kz_uses_stream(file->name, KZU_WRITES);
     return kz_ntstatus(kz_call_stream(file, call, bytes, NULL).status);
 }
 

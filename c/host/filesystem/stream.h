@@ -3,6 +3,7 @@
 #define KZ_FILESYSTEM_STREAM_H
 
 #include "host.h"
+#include "core/client.h"
 #include "filesystem/folder.h"
 #include "filesystem/tree.h"
 #include "filesystem/version.h"
@@ -19,6 +20,9 @@ void kz_begin_stream(KzStream *stream);
 void kz_end_stream(KzStream *stream);
 /* It is called so from now on. */
 void kz_name_stream(KzStream *stream, const char *name);
+
+/* Its bytes and size, and the times of its file. */
+void kz_uses_stream(const KzName *name, KzUse how);
 
 /* ---- Bytes. */
 /* A call of the base, with what is written; what is read lies in the room until the next one. */

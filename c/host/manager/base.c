@@ -20,6 +20,7 @@
 #include "filesystem/tree.h"
 #include "manager/below.h"
 #include "manager/breaks.h"
+#include "manager/operation.h"
 #include "manager/opaque.h"
 #include "manager/paging.h"
 #include "manager/disposition.h"
@@ -81,6 +82,25 @@ static bool answers(KzOp *op, const KazdrinData *call, NTSTATUS *answered)
     return true;
 }
 
+/* A create makes or finds its file among the volume's. What a cache asks for changes neither size nor times. */
+static void note_uses(const KzOp *op)
+{
+    bool is_create = op->event == KZE_CREATE, is_changed = is_create || (op->event == KZE_WRITE && !kz_is_for_cache(op));
+    if (is_create)
+        kz_scheduler->uses(&kz.files, KZU_WRITES);
+    if (op->file->name)
+        kz_uses_stream(op->file->name, is_changed ? KZU_WRITES : KZU_READS);
+}
+
+/* The bytes that paging I/O comes to, wherever filters sent it. */
+static void note_bytes(const KzOp *op, const KazdrinData *call)
+{
+    bool is_write = op->event == KZE_WRITE;
+    uint64_t length = is_write ? call->length : call->len, end = kz_pages_of(call->offset + length);
+    for (uint64_t page = call->offset / KZ_PAGE; kz_is_for_cache(op) && page < end; page++)
+        kz_scheduler->uses((const void *)(((uintptr_t)op->file->name->stream << 16) + (uintptr_t)page * sizeof page), is_write ? KZU_WRITES : KZU_READS);
+}
+
 /* What is written, if anything is, and what is read lie in the client's room. */
 static void call_bytes(KzOp *op, const KazdrinData *call, uint8_t worker)
 {
@@ -102,6 +122,9 @@ static void call_data(KzOp *op, const KazdrinData *call, uint8_t worker)
     bool is_past = call->operation == KZE_READ ? call->offset >= op->file->name->stream->size || !call->len : !call->length;
     bool is_by_pages = kz_goes_by_pages(op) && !is_past;
     NTSTATUS status = is_by_pages ? kz_call_pages(op, call, &length) : kz_goes_by_pages(op) ? STATUS_SUCCESS : kz_begin_uncached(op, call);
+    kz_goes_alone(op); /* other operations may have gone on within it */
+    note_uses(op);
+    note_bytes(op, call);
     if (is_by_pages || !NT_SUCCESS(status)) {
         answer(op, status, kz_me->room, NT_SUCCESS(status) ? length : 0);
         return;
@@ -169,23 +192,6 @@ static bool call_opaque(KzOp *op)
     if (!op->breaks.of)
         kz_keep_waiting(op);
     return false;
-}
-
-/* Its bytes and size, and the times of its file. */
-static void use_stream(const KzName *name, KzUse how)
-{
-    kz_scheduler->uses(&name->stream->size, how);
-    kz_scheduler->uses(name->file, how);
-}
-
-/* A create makes or finds its file among the volume's. */
-static void note_uses(const KzOp *op)
-{
-    bool is_create = op->event == KZE_CREATE, is_changed = is_create || op->event == KZE_WRITE;
-    if (is_create)
-        kz_scheduler->uses(&kz.files, KZU_WRITES);
-    if (op->file->name)
-        use_stream(op->file->name, is_changed ? KZU_WRITES : KZU_READS);
 }
 
 /* What goes by the stream's pages needs no device; what the cache itself asks for does if it is of pages. */

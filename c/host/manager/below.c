@@ -124,6 +124,7 @@ static KzAnswer begin(const KzOwn *own, KzFile *file, KazdrinEvent asked, const 
     }
     if (opaque)
         kz_begin_opaque(op, opaque);
+    kz_goes_alone(op);
     if (kz_carry_to_end(op))
         return kz_collect(op);
     return (KzAnswer){.reply = {.held = 1, .operation = op->id}};

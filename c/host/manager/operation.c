@@ -1,6 +1,7 @@
 /* Operations: each from its beginning to its reply, with all callbacks in between. */
 #include "manager/operation.h"
 
+#include "cache/cache.h"
 #include "core/client.h"
 #include "core/clock.h"
 #include "core/kept.h"
@@ -129,9 +130,10 @@ static bool is_closing(const KzOp *op)
 static bool is_simple(const KzOp *op)
 {
     bool is_event = op->event == KZE_READ || op->event == KZE_WRITE || op->event == KZE_FLUSH || op->event == KZE_QUERY_SIZE || op->event == KZE_CREATE || is_closing(op);
-    bool is_others = op->own.is_own || op->own.has_worker || op->opaque || op->users || op->wants || op->is_cancelled || op->is_reopened;
+    bool is_for_cache = kz_is_for_cache(op), is_filters = !is_for_cache && (op->own.is_own || op->opaque);
+    bool is_others = is_filters || op->own.has_worker || op->users || op->wants || op->is_cancelled || op->is_reopened;
     bool is_plain = op->file->name && !op->file->is_volume && !op->file->is_directory && !kz_is_in_folder(op->volume->id);
-    return is_event && !is_others && is_plain && op->maker == kz_me->number && !kz_me->beside;
+    return (is_event || is_for_cache) && !is_others && is_plain && op->maker == kz_me->number && !kz_me->beside;
 }
 
 /* It is out of the folder's counts, its locks and its share access go, its handle is none any more, and its flags say so. */

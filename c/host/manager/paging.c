@@ -17,12 +17,24 @@
 
 #include <stdlib.h>
 
-/* ---- Operations. */
+/* ---- Operations. What others touch is said where their asker says what itself touches behind it. */
+static KzAnswer ask(const KzOwn *own, KzFile *file, KazdrinEvent event, const uint8_t *bytes, size_t length)
+{
+    bool is_said = kz_me->is_paging;
+    kz_me->is_paging = false;
+    KzAnswer answer = kz_below(own, file, event, bytes, length);
+    kz_me->is_paging = is_said;
+    kz_me->is_known &= is_said;
+    if (!is_said || answer.is_refused || answer.reply.held)
+        kz_uses_all();
+    return answer;
+}
+
 NTSTATUS kz_page(KzFile *file, const KzPaging *asked, uint64_t *there)
 {
     const KzOwn own = {.is_waited_for = true, .is_late = true, .irp_flags = asked->flags};
     KazdrinEvent event = {.event = asked->is_write ? KZE_WRITE : KZE_READ, .handle = file->handle, .offset = asked->offset, .len = asked->is_write ? 0 : asked->length};
-    KzAnswer answer = kz_below(&own, file, event, asked->is_write ? asked->bytes : (const uint8_t *)"", asked->is_write ? asked->length : 0);
+    KzAnswer answer = ask(&own, file, event, asked->is_write ? asked->bytes : (const uint8_t *)"", asked->is_write ? asked->length : 0);
     *there = asked->is_write ? answer.reply.information : answer.length;
     return answer.reply.held ? STATUS_POSSIBLE_DEADLOCK : kz_status_of(answer); /* nobody lets it go on */
 }
@@ -30,7 +42,7 @@ NTSTATUS kz_page(KzFile *file, const KzPaging *asked, uint64_t *there)
 NTSTATUS kz_ask_for_cache(KzFile *file, const KzAsked *asked)
 {
     const KzOwn own = {.is_waited_for = true, .is_late = true, .irp_flags = asked->irp_flags, .opaque = asked};
-    return kz_status_of(kz_below(&own, file, kz_opaque_event(asked, (KazdrinEvent){.event = KZE_OTHER, .handle = file->handle}), "", 0));
+    return kz_status_of(ask(&own, file, kz_opaque_event(asked, (KazdrinEvent){.event = KZE_OTHER, .handle = file->handle}), (const uint8_t *)"", 0));
 }
 
 /* ---- By pages. On a volume that doesn't cache those of a section. */
@@ -104,6 +116,7 @@ static NTSTATUS write_locked(KzOp *op, KzCache *cache, const KazdrinData *call, 
     if (!NT_SUCCESS(status))
         return status;
     status = kz_write_pages(cache, call->offset, bytes, call->length, top_of(op));
+    kz_uses_stream(file->name, KZU_WRITES);
     if (!NT_SUCCESS(status) && end > size)
         kz_resize(file, size);
     if (!NT_SUCCESS(status))
@@ -130,11 +143,14 @@ static NTSTATUS write_pages(KzOp *op, const KazdrinData *call)
 
 NTSTATUS kz_call_pages(KzOp *op, const KazdrinData *call, size_t *length)
 {
-    kz_uses_all();
+    bool before = kz_me->is_paging;
     *length = 0;
     if (needs_irp(op, call))
         return STATUS_FLT_DISALLOW_FAST_IO;
-    return op->event == KZE_WRITE ? write_pages(op, call) : read_pages(op, call, length);
+    kz_me->is_paging = true;
+    NTSTATUS status = op->event == KZE_WRITE ? write_pages(op, call) : read_pages(op, call, length);
+    kz_me->is_paging = before;
+    return status;
 }
 
 /* ---- By a view of it. */
@@ -204,6 +220,15 @@ static bool takes_lock(const KzOp *op, const KazdrinData *call)
     return !(op->own.irp_flags & IRP_PAGING_IO) && (is_data_of(call) || call->operation == KZE_SET_SIZE) && kz_cache_of(op->file);
 }
 
+static NTSTATUS flush(KzCache *cache)
+{
+    bool before = kz_me->is_paging;
+    kz_me->is_paging = true;
+    NTSTATUS status = kz_flush_cache(cache, 0, 0);
+    kz_me->is_paging = before;
+    return status;
+}
+
 NTSTATUS kz_begin_uncached(KzOp *op, const KazdrinData *call)
 {
     KzFile *file = op->file;
@@ -215,13 +240,13 @@ NTSTATUS kz_begin_uncached(KzOp *op, const KazdrinData *call)
     KzCache *cache = kz_cache_of(file);
     if (!cache || !NT_SUCCESS(status))
         return status;
+    if (call->operation == KZE_FLUSH)
+        return flush(cache);
     kz_uses_all();
     if (takes_lock(op, call) && !kz_lock_stream(cache, call->operation != KZE_READ))
         return cannot_lock(file);
     uint64_t length = call->operation == KZE_WRITE ? call->length : call->len;
-    if (call->operation == KZE_FLUSH)
-        status = kz_flush_cache(cache, 0, 0);
-    else if (is_data_of(call) && length)
+    if (is_data_of(call) && length)
         status = kz_flush_cache(cache, call->offset, length);
     if (!NT_SUCCESS(status) && takes_lock(op, call))
         kz_unlock_stream(cache, kz_me);

@@ -33,23 +33,23 @@ FLT_RELATED_OBJECTS kz_objects(PFLT_INSTANCE instance, KzFile *file)
     return (FLT_RELATED_OBJECTS){sizeof(FLT_RELATED_OBJECTS), in ? in->block.TxFsContext : 0, instance->filter, instance->volume, instance, file ? &file->object : NULL, in};
 }
 
-/* What a callback is given of these is gone once it has returned: they are filled then, as if others used that stack. */
-enum { LENT = 256 };
+/* What a callback is given of these is gone once it has returned: they are filled then, as if others used that stack. Each client has its own, whoever came before it. */
+enum { LISTS = 16, LENT = 64 };
 struct KzLentState {
-    FLT_RELATED_OBJECTS all[LENT];
-    bool is_used[LENT];
-    unsigned next;
+    FLT_RELATED_OBJECTS all[LISTS * LENT];
+    bool is_used[LISTS * LENT];
+    unsigned next[LISTS];
 };
 
 FLT_RELATED_OBJECTS *kz_lend_objects(FLT_RELATED_OBJECTS objects)
 {
-    struct KzLentState *lent = kz.lent;
-    while (lent->is_used[lent->next % LENT])
-        lent->next++;
-    unsigned at = lent->next++ % LENT;
-    lent->is_used[at] = true;
-    memcpy(&lent->all[at], &objects, sizeof objects); /* its fields are constants */
-    return &lent->all[at];
+    unsigned list = kz_me->number % LISTS, *next = &kz.lent->next[list];
+    while (kz.lent->is_used[list * LENT + *next % LENT])
+        ++*next;
+    unsigned at = list * LENT + (*next)++ % LENT;
+    kz.lent->is_used[at] = true;
+    memcpy(&kz.lent->all[at], &objects, sizeof objects); /* its fields are constants */
+    return &kz.lent->all[at];
 }
 
 void kz_take_objects(FLT_RELATED_OBJECTS *objects)

@@ -2,7 +2,8 @@
 # c/tests/scripts/sound.sh [COUNT [FIRST]] : nothing is lost by what the default search leaves out. It has the ends of --whole, each of them and no other:
 #   - for each scenario of c/tests and c/samples, at a bound at which --whole ends soon;
 #   - for COUNT random scenarios from number FIRST on, 500 from 1 on without the words (c/tests/sound/draw.py).
-# And steps that are taken to come to the same in either order do, by --commute: of those scenarios, and of a driver that calls what is taken to touch nothing that others have.
+# And steps that are taken to come to the same in either order do, by --commute: of those scenarios, of each driver of c/tests and c/samples with four clients, above a volume that caches as well,
+# and of a driver that calls what is taken to touch nothing that others have.
 set -u
 case ${1:-} in -h | --help) sed -n '2,/^[^#]/s/^#\( \|$\)//p' "$0"; exit ;; esac
 COUNT=${1:-500}
@@ -31,6 +32,16 @@ commute() {
     "$program" --commute "$@" "$room/scenario" > "$room/pairs" && grep -q '^[0-9]* pairs, .* 0 of them wrongly$' "$room/pairs" || { cat "$room/pairs"; false; }
     tell $? "$name, steps in both orders,"
 }
+# With four clients; with more random scenarios there are more pairs.
+paired() {
+    local kind=$1 name scenario program=$built/$1 pairs=$((COUNT > 500 ? 1000 : 60))
+    for name in $(names_of "$kind"); do
+        for scenario in four-clients cached-clients; do
+            sed "s/DRIVER/$name/" "$tests/scenarios/$scenario.txt" > "$room/scenario"
+            commute $pairs
+        done
+    done
+}
 own() {
     local program=$built/own name="own, group $1"
     sed "s/GROUP/$1/" "$sound/own.txt" > "$room/scenario"
@@ -42,6 +53,16 @@ drawn() {
     local begin=$1 count=$((COUNT / PARTS))
     "$sound/draw.py" "$built/drawn" $((FIRST + begin * count)) $count > "$room/drawn" && grep -q ' comparisons, [1-9]' "$room/drawn" || { cat "$room/drawn"; false; }
     tell $? "random scenarios from $((FIRST + begin * count)) on"
+}
+
+# The drivers of a folder, but for those that refuse this set-up, and whose code doesn't come to an end.
+sources_of() {
+    local folder=$tests/$1
+    [ "$1" != samples ] || folder=c/samples
+    printf '%s\n' "$folder"/*.c "$folder"/*.cpp | grep -vE '/(\*\.cpp|ownio\.c|refused\.c|forever\.c|spins\.c)$'
+}
+names_of() {
+    sources_of "$1" | sed 's,.*/,,; s,\..*,,'
 }
 
 # A scenario's driver, by its first load.
@@ -75,10 +96,14 @@ done
 unset 'users[-1]'
 build "drivers of schedules" --explore "$room/schedules" "$tests"/misuse/schedules/*.c
 build "samples" --explore "$room/samples" c/samples/*.c "${users[@]}"
-build "right drivers" --explore "$room/legal" "$tests"/legal/*.c
-build "wrong drivers" --explore "$room/misuse" "$tests"/misuse/{access,freed,gone,irql,kept,made,past,rescans,strings}.c
+for kind in legal misuse drivers; do
+    mapfile -t sources < <(sources_of $kind)
+    build "those of $kind" --explore "$room/$kind" "${sources[@]}"
+done
 build "drivers that are drawn for" --explore "$room/drawn" "$sound/drawn" "$sound/portbusy.c" --user "$sound/program.c"
 rows compared "drawn 2 $sound/portbusy.txt portbusy" "${of_schedules[@]}" "${others[@]}"
+
+rows paired samples legal misuse drivers
 
 # A port's callback that is over, and another that begins: what is found is what portbusy.txt says.
 "$room/drawn" --bound 2 "$sound/portbusy.txt" > "$room/out"

@@ -36,11 +36,13 @@ static void pass_run(Store *store)
 {
     uint32_t number = ex->run.number;
     int most = ex->run.most_runners;
+    unsigned met = ex->run.met;
     bool has_late_reads = ex->run.has_late_reads;
     ex_pass(store, &ex->run, offsetof(Run, out));
     ex_pass(store, &ex->run.back, sizeof ex->run - offsetof(Run, back));
     ex->run.number = number;
     ex->run.most_runners = most;
+    ex->run.met = met;
     ex->run.has_late_reads = has_late_reads;
     ex_pass(store, &ex->path.deviations, sizeof ex->path.deviations);
     ex_pass(store, &ex->path.hash, sizeof ex->path.hash);

@@ -102,6 +102,7 @@ int ex_try_pairs(unsigned runs)
     ex->search.bound = UINT32_MAX;
     for (unsigned at = 1; at <= runs; at++) {
         *one = (struct Pair){.do_depend = true};
+        ex->search.minds |= ex->run.met;
         ex->path.random = at * 0x9e3779b97f4a7c15ULL | 1;
         one->place = ex_draw(ex->path.usual_steps);
         uint64_t from = ex->path.random;

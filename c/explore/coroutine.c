@@ -151,8 +151,9 @@ void ex_note_used(const Use *uses, unsigned count, bool is_all)
 {
     for (int at = 1; at <= ex->run.runners_count; at++)
         for (unsigned look = 0; at != ex->run.current && ex->run.patience[at].has_looked && look < LOOKS; look++) {
-            const Use seen = {ex->run.patience[at].looks[look].at >> 3, KZU_READS};
-            if (is_all || ex_do_depend(&seen, 1, uses, count))
+            const uintptr_t word = ex->run.patience[at].looks[look].at >> 3;
+            const Use seen[] = {{word, KZU_READS}, ex_block_around(word)};
+            if (is_all || ex_do_depend(seen, 2, uses, count))
                 ex->run.patience[at].looks[look].count = 0;
         }
 }

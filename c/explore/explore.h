@@ -91,6 +91,7 @@ typedef struct {
 
 typedef struct {
     bool is_all; /* it may be everything */
+    bool is_by_blocks; /* of memory it has blocks, and no words */
     unsigned count;
     Use uses[USES];
 } Footprint;
@@ -158,6 +159,9 @@ typedef struct {
     bool is_preemption;
 } Event;
 
+/* What costs schedules where nobody comes to it: more words of memory in a step than a footprint has, and who reads the volume's journal. A search that comes to one begins anew, and minds it from then on. */
+enum { MET_MANY_WORDS = 1, MET_JOURNAL = 2 };
+
 /* How the scenario is searched (options.c). */
 typedef struct {
     unsigned bound, fails, shard, shards;
@@ -173,6 +177,7 @@ typedef struct {
     bool is_spread;  /* it is one of parts, of which each is searched as if it were alone */
     bool is_thinned; /* of orders that differ by steps which come to the same in either order one is searched */
     bool has_no_bound;
+    unsigned minds; /* of what was MET: steps say what they use of it */
     size_t memory; /* that the explorer's own tables may take */
     uint64_t seed, runs;
     unsigned pct; /* how many changes of priority a drawn run may need, and one; 0 for a coin at each choice */
@@ -213,6 +218,7 @@ typedef struct {
     unsigned late_used;
     Read reads[READS]; /* what was read of callers' own buffers */
     unsigned reads_count, changes_used;
+    unsigned met; /* in any run */
     bool has_late_reads; /* in any run: a volatile read of another cell behind a volatile write, with nothing between them that empties a buffer */
     Patience patience[RUNNERS + 1]; /* of each client */
     uint32_t able;
@@ -366,6 +372,8 @@ void ex_use_words(const void *address, size_t size, bool is_write);
 /* The driver's code does so. */
 void ex_use_memory(const void *address, size_t size, bool is_write);
 void ex_use_gone(const void *memory, size_t size);
+/* The block around a word, as who uses words of it has it. */
+Use ex_block_around(uintptr_t tag);
 void ex_use_meetings(uintptr_t tag, bool is_atomic);
 bool ex_do_depend(const Use *a, unsigned count, const Use *b, unsigned others);
 

@@ -8,6 +8,7 @@ static Footprint *now; /* not put back */
 
 /* Which accesses make a plain access to the same place a point. */
 #define MET (1UL << 62)
+#define BLOCK (1UL << 61)
 
 void ex_open_footprints(void)
 {
@@ -16,7 +17,7 @@ void ex_open_footprints(void)
 
 Footprint *ex_begin_footprint(void)
 {
-    now->is_all = false;
+    now->is_all = now->is_by_blocks = false;
     now->count = 0;
     return now;
 }
@@ -37,7 +38,18 @@ void ex_use_all(void)
         now->is_all = true;
 }
 
-static void use(uintptr_t tag, KzUse how)
+/* ---- Words, and blocks of them. Whoever uses a word adds to its block, whatever he does there: so he meets those that use the whole block, and no other that uses words. */
+static uintptr_t block_of(uintptr_t tag)
+{
+    return (tag & MET) | BLOCK | ((tag & ~MET) >> 9);
+}
+
+Use ex_block_around(uintptr_t tag)
+{
+    return (Use){block_of(tag), KZU_ADDS};
+}
+
+static void put(uintptr_t tag, KzUse how)
 {
     unsigned at = now->count;
     while (at > 0 && now->uses[at - 1].tag != tag)
@@ -48,6 +60,39 @@ static void use(uintptr_t tag, KzUse how)
         now->is_all = true;
     else
         now->uses[now->count++] = (Use){tag, how};
+}
+
+static void put_block(uintptr_t tag, KzUse how)
+{
+    put(block_of(tag), how == KZU_READS ? how : KZU_WRITES);
+}
+
+/* There are too many words: it has their blocks from now on. */
+static void fold(void)
+{
+    const Footprint words = *now;
+    ex->run.met |= MET_MANY_WORDS;
+    if (!(ex->search.minds & MET_MANY_WORDS)) {
+        now->is_all = true;
+        return;
+    }
+    now->count = 0;
+    now->is_by_blocks = true;
+    for (unsigned at = 0; at < words.count; at++)
+        if (!(words.uses[at].tag & BLOCK))
+            put_block(words.uses[at].tag, words.uses[at].how);
+}
+
+static void use(uintptr_t tag, KzUse how)
+{
+    if (!now->is_by_blocks && now->count + 2 > USES)
+        fold();
+    if (now->is_by_blocks)
+        put_block(tag, how);
+    else
+        put(tag, how);
+    if (!now->is_by_blocks && ex->search.minds & MET_MANY_WORDS)
+        put(block_of(tag), KZU_ADDS);
 }
 
 void ex_uses(const void *object, KzUse how)
@@ -65,9 +110,9 @@ void ex_use_words(const void *address, size_t size, bool is_write)
     uintptr_t first = (uintptr_t)address >> 3, last = ((uintptr_t)address + size - (size > 0)) >> 3;
     if (!is_kept())
         return;
-    if (last - first >= USES)
-        now->is_all = true;
-    for (uintptr_t tag = first; !now->is_all && tag <= last; tag++)
+    if (last - first >= USES && !now->is_by_blocks)
+        fold();
+    for (uintptr_t tag = first; !now->is_all && tag <= last; tag = now->is_by_blocks ? (tag | 511) + 1 : tag + 1)
         use(tag, is_write ? KZU_WRITES : KZU_READS);
 }
 

@@ -21,6 +21,7 @@ Explorer *ex;
 static void begin_run(void)
 {
     ex_put_back();
+    kz.is_journal_ordered = ex->search.minds & MET_JOURNAL;
     ex->path.depth = ex->found.count = ex->schedule.length = ex->output.length = 0;
     ex->run.preemptions = ex->run.switches = ex->run.fails_used = ex->run.timeouts = ex->run.steps = ex->path.deviations = 0;
     ex->path.hash = 0;
@@ -121,6 +122,7 @@ void ex_run_once(void)
         ex_break_step();
     }
     ex->run.is_running = false;
+    ex->run.met |= kz.is_journal_read ? MET_JOURNAL : 0;
     kz_me = &kz_first;
     ex_keep_found();
 }
@@ -206,6 +208,14 @@ static bool is_to_end(void)
     return ex->total.is_interrupted;
 }
 
+/* What it didn't mind before may have left orders out. */
+static bool is_to_begin_anew(void)
+{
+    unsigned before = ex->search.minds;
+    ex->search.minds |= ex->search.is_thinned ? ex->run.met : 0;
+    return ex->search.minds != before;
+}
+
 static void begin_bound(void)
 {
     ex->total.since = seconds();
@@ -215,6 +225,8 @@ static void begin_bound(void)
         ex->total.since -= ex->total.resumed.seconds;
         ex->total.is_resumed = false;
         ex_go_on_in_order();
+        if (is_to_begin_anew())
+            ex_go_on_in_order(); /* as before it was interrupted */
         return;
     }
     ex->path.length = 0;
@@ -236,7 +248,10 @@ static bool search_bound(void)
     ex_keep_places(!ex->search.is_reduced && !kz_binaries.put_back); /* a binary's machine is more than its memory */
     while (is_more && !is_to_end()) {
         ex_run_once();
-        is_more = ex_advance();
+        if (is_to_begin_anew())
+            begin_bound();
+        else
+            is_more = ex_advance();
     }
     ex_keep_places(false);
     if (is_more && ex->total.is_interrupted)

@@ -125,6 +125,7 @@ typedef struct {
     size_t unheard_count;
     KzCounts counts;
     uint64_t changes; /* how often something ended that somebody may wait for */
+    bool is_journal_read, is_journal_ordered; /* in this run; and then, whose record comes first is another end */
     LONGLONG passed;  /* since the run began, in units of 100 nanoseconds */
     unsigned waiters, fires_left; /* who waits while timers may fire, and how many of these may yet (core/clock.h) */
     ULONG uuids;      /* that were made */

@@ -8,6 +8,7 @@
 #include "core/frame.h"
 #include "core/irql.h"
 #include "core/late.h"
+#include "core/memory.h"
 #include "core/module.h"
 #include "core/said.h"
 #include "core/stack.h"
@@ -44,6 +45,15 @@ void kz_new_client(KzClient *client, const char *name, unsigned number)
     client->line_number = 0;
     memset(&client->tries, 0, sizeof client->tries);
     memset(client->taken, 0, sizeof client->taken);
+}
+
+void *kz_common_memory(size_t size)
+{
+    KzClient *me = kz_me;
+    kz_me = &kz_first;
+    void *made = kz_memory(size);
+    kz_me = me;
+    return made;
 }
 
 unsigned kz_go_inside_unsaid(void)

@@ -147,6 +147,8 @@ bool kz_let_others(void);
 /* The one that runs. */
 extern _Thread_local KzClient *kz_me;
 extern KzClient kz_first;
+/* Of a table that grows for whoever comes to its end: so no client's own addresses depend on who came before it. */
+void *kz_common_memory(size_t size);
 void kz_new_client(KzClient *client, const char *name, unsigned number);
 extern const KzScheduler kz_in_order;
 extern const KzScheduler *kz_scheduler;

@@ -1,8 +1,6 @@
 /* Memory of the host's own, which must be there. */
 #include "core/memory.h"
 
-#include "core/client.h"
-
 #include <stdlib.h>
 
 /* What a server keeps back: one request takes less than one of them. */
@@ -44,15 +42,6 @@ void *kz_memory(size_t size)
         exit(1);
     }
     return memory;
-}
-
-void *kz_common_memory(size_t size)
-{
-    KzClient *me = kz_me;
-    kz_me = &kz_first;
-    void *made = kz_memory(size);
-    kz_me = me;
-    return made;
 }
 
 char *kz_copy_of(const char *text)

@@ -5,8 +5,6 @@
 #include "host.h"
 
 void *kz_memory(size_t size);
-/* Of a table that grows for whoever comes to its end: so no client's own addresses depend on who came before it. */
-void *kz_common_memory(size_t size);
 char *kz_copy_of(const char *text);
 /* Takes what is missing of the two blocks that are kept back: how many there are. */
 unsigned kz_keep_back(void);

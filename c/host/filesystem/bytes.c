@@ -1,6 +1,7 @@
 /* The bytes of files in memory, by pages. */
 #include "filesystem/bytes.h"
 
+#include "core/client.h"
 #include "core/memory.h"
 
 #include <stdlib.h>

@@ -60,7 +60,8 @@ static void put(const KzName *name, ULONG reason)
     KzRecord *record = name->file;
     record->usn = kz.journal->volumes[at].next;
     size_t length = fill(name, record->usn, reason, room);
-    kz_scheduler->uses(&kz.journal->volumes[at], KZU_WRITES);
+    if (kz.is_journal_ordered)
+        kz_scheduler->uses(&kz.journal->volumes[at], KZU_WRITES);
     Kept *made = kz_memory(sizeof *made);
     made->record = kz_memory(length);
     memcpy(made->record, room, length);
@@ -127,13 +128,22 @@ void kz_journal_close(const KzName *name)
     name->file->reasons = 0;
 }
 
+/* Whoever reads of it is taken to use everything. */
+static void note_read(void)
+{
+    kz_uses_all();
+    kz.is_journal_read = true;
+}
+
 size_t kz_journal_record(const KzName *name, uint8_t *to)
 {
+    note_read();
     return fill(name, name->file->usn, 0, to);
 }
 
 void kz_query_journal(PFLT_VOLUME volume, USN_JOURNAL_DATA_V0 *to)
 {
+    note_read();
     *to = (USN_JOURNAL_DATA_V0){.UsnJournalID = volume->id + 1u, .NextUsn = kz.journal->volumes[volume->id].next, .MaxUsn = MAXLONGLONG, .MaximumSize = 1 << 25, .AllocationDelta = 1 << 22};
 }
 
@@ -141,6 +151,7 @@ void kz_query_journal(PFLT_VOLUME volume, USN_JOURNAL_DATA_V0 *to)
 NTSTATUS kz_read_journal(PFLT_VOLUME volume, const READ_USN_JOURNAL_DATA_V0 *asked, uint8_t *to, size_t room, size_t *length)
 {
     USN next = kz.journal->volumes[volume->id].next;
+    note_read();
     *length = sizeof next;
     if (room < sizeof next)
         return STATUS_BUFFER_TOO_SMALL;

@@ -142,8 +142,6 @@ void kz_uses_stream(const KzName *name, KzUse how)
 {
     kz_scheduler->uses(&name->stream->size, how);
     kz_scheduler->uses(name->file, how);
-    if (name->stream->views)
-        kz_uses_all();
 }
 
 KzFolderAnswer kz_call_stream(KzFile *file, const KazdrinData *call, const uint8_t *bytes, uint8_t *room)

@@ -2,11 +2,11 @@
 # For paging.sh and image.sh: an encryption layer above a cache, as a source and as a binary. `run` and `explore` are the programs that have it, with the words before those of a test; tally.sh came before.
 # shellcheck disable=SC2154 # both are the caller's, as are tell, room and tests
 
-# found NAME WORD..: nothing is found in the scenario that goes on with the lines of the standard input.
+# found NAME WORD..: nothing is found in the scenario that goes on with the lines of the standard input, above that layer, or above what `driver` says.
 found() {
     local name=$1
     shift
-    { printf 'volume v0 cached\nload layer\nattach layer v0 140000 as l\ncreate v0 new a as a\nwrite a 0 506c61696e2074657874\n'; cat; } > "$room/scenario"
+    { printf 'volume v0 cached\nload %s\nattach %s v0 140000 as l\ncreate v0 new a as a\nwrite a 0 506c61696e2074657874\n' "${driver:-layer}" "${driver:-layer}"; cat; } > "$room/scenario"
     "${explore[@]}" "$@" "$room/scenario" > "$room/out" 2>&1 && grep -q 'told 0, races 0, stuck 0, crashed 0' "$room/out" || { cat "$room/out"; false; }
     tell $? "$name"
 }

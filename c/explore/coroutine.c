@@ -631,23 +631,23 @@ const Runner *ex_holder_of(const Runner *one)
 {
     KzOwnerOf *owner_of = one->state == WAITING && !one->client->timeout ? one->client->owner_of : NULL;
     const KzClient *owner = owner_of ? owner_of(one->client->owned) : NULL;
-    return owner && owner != one->client ? &ex_runners[owner->number] : NULL;
+    return owner ? &ex_runners[owner->number] : NULL;
 }
 
-/* Who has what it waits for waits for what another has, and so on, up to what it has itself. */
-static bool is_in_circle(const Runner *one)
+/* Who has what it waits for waits for what another has, and so on, up to what it has itself, or to one who has ended and gives nothing back. */
+static bool waits_for_ever(const Runner *one)
 {
     const Runner *at = ex_holder_of(one);
-    for (int links = 0; at && at != one && links < RUNNERS; links++)
+    for (int links = 0; at && at != one && at->state != ENDED && links < RUNNERS; links++)
         at = ex_holder_of(at);
-    return at == one;
+    return at && (at == one || at->state == ENDED);
 }
 
-/* A thread beside the clients may wait for what never comes, as a service does, but not in a circle. */
+/* A thread beside the clients may wait for what never comes, as a service does, but not for one who waits like that. */
 bool ex_is_stuck(void)
 {
     bool is_stuck = is_any_left();
     for (int at = 1; at <= ex->run.runners_count && !is_stuck; at++)
-        is_stuck = ex_runners[at].thread && is_in_circle(&ex_runners[at]);
+        is_stuck = ex_runners[at].thread && waits_for_ever(&ex_runners[at]);
     return is_stuck;
 }

@@ -31,6 +31,18 @@ static bool is_free(void *given)
     return seat_of(wanted->cache, NULL) < KZ_SEATS;
 }
 
+/* Who is in the way of a client: the lazy writer of those that run beside the requests is none. */
+static const KzClient *owner_of(const void *given)
+{
+    const Wanted *wanted = given;
+    for (size_t at = 0; at < KZ_SEATS; at++) {
+        const void *by = wanted->cache->seats[at].by;
+        if (by && by != wanted->by && by != kz.cache && (wanted->is_alone || wanted->cache->seats[at].is_alone))
+            return by;
+    }
+    return NULL;
+}
+
 static void sit_down(const Wanted *wanted)
 {
     KzCache *cache = wanted->cache;
@@ -56,6 +68,7 @@ bool kz_lock_stream(KzCache *cache, bool is_alone)
     cache->users++;
     kz_keeps_lock(cache);
     kz_scheduler->uses(cache->seats, KZU_READS);
+    kz_waits_for_owner(owner_of, &wanted, false);
     bool has_it = kz_wait(is_free, &wanted, "the file system's lock of \\%s", cache->holder->path);
     kz_scheduler->uses(cache->seats, KZU_READS);
     kz_keeps_lock(cache);

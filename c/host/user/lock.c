@@ -1,14 +1,16 @@
 /* Slim locks of a program's threads, and locks of bytes in its files. */
+#include "core/beside.h"
 #include "core/client.h"
 #include "core/op.h"
 #include "user/later.h"
 #include "user/object.h"
 #include "user/program.h"
 
-/* ---- Slim locks: how many read under it, -1 where one writes. */
+/* ---- Slim locks: how many read under it; where one writes his address, as a number below zero. */
 typedef struct {
     intptr_t held;
 } Slim;
+enum { SHARED = sizeof(((KzUser *)0)->shared) / sizeof(((KzUser *)0)->shared[0]) };
 
 static bool is_free(void *slim)
 {
@@ -20,12 +22,47 @@ static bool is_shared(void *slim)
     return ((Slim *)slim)->held >= 0;
 }
 
+/* Where a lock is among those that a thread shares; no lock is where there is room. */
+static unsigned place_of(const KzUser *user, const void *slim)
+{
+    unsigned at = 0;
+    while (at < SHARED && user->shared[at] != slim)
+        at++;
+    return at;
+}
+
+static void note_shared(const void *before, const void *now)
+{
+    unsigned at = place_of(kz_user(), before);
+    if (at < SHARED)
+        kz_user()->shared[at] = now;
+}
+
+typedef struct {
+    const Slim *slim;
+    const KzProcess *process;
+} Owned;
+
+/* Who writes, or the first who reads. */
+static const KzClient *owner_of(const void *given)
+{
+    const Owned *owned = given;
+    const KzUser *user = owned->slim->held < 0 ? (const KzUser *)-owned->slim->held : owned->process->users;
+    while (owned->slim->held > 0 && user && place_of(user, owned->slim) == SHARED)
+        user = user->next;
+    return owned->slim->held && user ? &user->thread->client : NULL;
+}
+
 static unsigned char take(Slim *slim, bool shares, uint32_t milliseconds, const char *call)
 {
     KZ_CALL_OF(call);
+    const Owned owned = {slim, kz_user()->process};
+    kz_waits_for_owner(owner_of, &owned, false);
     if (!kz_user_waits(shares ? is_shared : is_free, slim, milliseconds, call))
         return 0;
-    slim->held = shares ? slim->held + 1 : -1;
+    if (shares)
+        note_shared(NULL, slim);
+    slim->held = shares ? slim->held + 1 : -(intptr_t)kz_user();
     kz_scheduler->touch(slim, 0, KZT_TAKES);
     return 1;
 }
@@ -34,6 +71,8 @@ static void give(Slim *slim, const char *call)
 {
     KZ_CALL_OF(call);
     kz_scheduler->touch(slim, 0, KZT_GIVES);
+    if (slim->held > 0)
+        note_shared(slim, NULL);
     if (slim->held)
         slim->held = slim->held > 0 ? slim->held - 1 : 0;
     kz.changes++;

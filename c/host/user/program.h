@@ -9,7 +9,7 @@
 
 #include <setjmp.h>
 
-enum { KZ_ERROR_IO_PENDING = 997, KZ_ERROR_INVALID_HANDLE = 6, KZ_WAIT_TIMEOUT = 258 };
+enum { KZ_ERROR_IO_PENDING = 997, KZ_ERROR_INVALID_HANDLE = 6, KZ_WAIT_ABANDONED = 128, KZ_WAIT_TIMEOUT = 258 };
 
 /* Of c/build.sh's list. */
 typedef struct {
@@ -46,6 +46,7 @@ struct KzUser {
     uint32_t error, result;
     jmp_buf end;
     KzObject *object; /* its handle's, where it has one */
+    const void *shared[16]; /* slim locks under which it reads, as far as there is room */
     bool has_ended;
 };
 

@@ -7,13 +7,14 @@
 
 #define WAIT_FAILED UINT32_MAX
 
-static bool is_signalled(const KzObject *one)
+/* For that thread. A mutex whose owner has ended is abandoned. */
+static bool is_signalled(const KzObject *one, const KzUser *by)
 {
     switch (one->kind) {
     case KZU_THREAD:
         return one->owner->has_ended;
     case KZU_MUTEX:
-        return !one->owner || one->owner == kz_user();
+        return !one->owner || one->owner == by || one->owner->has_ended;
     case KZU_EVENT:
     case KZU_SEMAPHORE:
         return one->count > 0;
@@ -22,19 +23,23 @@ static bool is_signalled(const KzObject *one)
     }
 }
 
-static void take(KzObject *one)
+/* Whether it was abandoned. */
+static bool take(KzObject *one)
 {
+    bool is_abandoned = one->kind == KZU_MUTEX && one->owner && one->owner->has_ended;
     kz_scheduler->touch(one, 0, KZT_TAKES);
     if (one->kind == KZU_MUTEX) {
         one->owner = kz_user();
-        one->count++;
+        one->count = is_abandoned ? 1 : one->count + 1;
     } else if (one->kind == KZU_SEMAPHORE || (one->kind == KZU_EVENT && !one->is_manual)) {
         one->count--;
     }
+    return is_abandoned;
 }
 
 typedef struct {
     KzObject *objects[64];
+    const KzUser *by;
     uint32_t count, first;
     bool wants_all;
 } Wanted;
@@ -45,33 +50,37 @@ static bool is_there(void *given)
     uint32_t signalled = 0;
     wanted->first = 64;
     for (uint32_t at = 0; at < wanted->count; at++) {
-        bool is = is_signalled(wanted->objects[at]);
+        bool is = is_signalled(wanted->objects[at], wanted->by);
         signalled += is;
         wanted->first = is && wanted->first == 64 ? at : wanted->first;
     }
     return wanted->wants_all ? signalled == wanted->count : signalled > 0;
 }
 
-/* The owner of a mutex, or the thread itself. */
-static const KzClient *owner_of(const void *object)
+/* The owner of a mutex, or the thread itself: of what it waits for alone, or of the first that is missing. */
+static const KzClient *owner_of(const void *given)
 {
-    const KzObject *one = object;
+    const Wanted *wanted = given;
+    uint32_t at = 0;
+    while (at + 1 < wanted->count && is_signalled(wanted->objects[at], wanted->by))
+        at++;
+    const KzObject *one = wanted->objects[at];
     bool has_owner = one->kind == KZU_MUTEX || one->kind == KZU_THREAD;
     return has_owner && one->owner ? &one->owner->thread->client : NULL;
 }
 
 static uint32_t wait_for(Wanted *wanted, uint32_t milliseconds)
 {
-    if (wanted->count == 1)
-        kz_waits_for_owner(owner_of, wanted->objects[0], false);
+    if (wanted->count == 1 || wanted->wants_all)
+        kz_waits_for_owner(owner_of, wanted, false);
     if (!kz_user_waits(is_there, wanted, milliseconds, "an object of the program"))
         return KZ_WAIT_TIMEOUT;
+    bool is_abandoned = false;
     for (uint32_t at = 0; wanted->wants_all && at < wanted->count; at++)
-        take(wanted->objects[at]);
-    if (wanted->wants_all)
-        return 0;
-    take(wanted->objects[wanted->first]);
-    return wanted->first;
+        is_abandoned |= take(wanted->objects[at]);
+    if (!wanted->wants_all)
+        is_abandoned = take(wanted->objects[wanted->first]);
+    return (wanted->wants_all ? 0 : wanted->first) + (is_abandoned ? KZ_WAIT_ABANDONED : 0);
 }
 
 uint32_t WaitForMultipleObjectsEx(uint32_t count, void *const *handles, int wants_all, uint32_t milliseconds, int is_alertable);
@@ -81,7 +90,7 @@ uint32_t WaitForMultipleObjectsEx(uint32_t count, void *const *handles, int want
     (void)is_alertable;
     {
         KZ_CALL();
-        Wanted wanted = {.count = count, .wants_all = wants_all};
+        Wanted wanted = {.count = count, .wants_all = wants_all, .by = kz_user()};
         bool is_right = count > 0 && count <= 64;
         for (uint32_t at = 0; is_right && at < count; at++)
             is_right = (wanted.objects[at] = kz_any_object(handles[at])) != NULL;

@@ -49,7 +49,7 @@ rows played "${names[@]}"
 build "portlock" --explore "$room/portlock" $tests/misuse/portlock.c --user $tests/user/peer.c
 waiting() {
     "$room/portlock" --bound 1 "$room/waiting.txt" > "$room/out"
-    [ $? = 6 ] && grep -A 2 '^    STUCK' "$room/out" | diff - <(printf '    STUCK\n      %s\n      %s\n' "$@")
+    [ $? = 6 ] && grep -A $# '^    STUCK' "$room/out" | diff - <(printf '    STUCK\n'; printf '      %s\n' "$@")
 }
 printf 'load portlock\nattach 0 0 p 200\ncreate 0 new f\nstart peer\nclient r: read 0 0 8\n' > "$room/waiting.txt"
 waiting 'r waits for FltSendMessage, which is to be answered: peer has it' 'peer waits for KeWaitForSingleObject: r has it'
@@ -57,6 +57,20 @@ tell $? "a message and a mutex that wait for one another"
 printf 'load portlock\nclient p: start peer circle\n' > "$room/waiting.txt"
 waiting 'peer waits for EnterCriticalSection: peer.2 has it' 'peer.2 waits for EnterCriticalSection: peer has it'
 tell $? "two threads of a program that wait for one another"
+for locks in slim shared; do
+    printf 'load portlock\nclient p: start peer %s\n' "$locks" > "$room/waiting.txt"
+    waiting 'peer waits for AcquireSRWLockExclusive: peer.2 has it' 'peer.2 waits for AcquireSRWLockExclusive: peer has it'
+    tell $? "two threads that wait for one another's slim locks, $locks"
+done
+printf 'load portlock\nclient p: start peer gone\n' > "$room/waiting.txt"
+waiting 'peer waits for EnterCriticalSection: peer.2 has it'
+tell $? "a thread that waits for what one has who is gone"
+printf 'load portlock\nclient p: start peer itself\n' > "$room/waiting.txt"
+waiting 'peer waits for AcquireSRWLockExclusive: peer has it'
+tell $? "a thread that waits for itself"
+printf 'load portlock\nclient p: start peer abandoned\n' > "$room/waiting.txt"
+"$room/portlock" --bound 1 "$room/waiting.txt" > "$room/out"
+tell $? "a mutex whose owner has ended"
 # A program that waits for a message, as it should, is in nobody's way.
 printf 'load portlock\nattach 0 0 p 200\ncreate 0 new f\nclient p: start peer\nclient f: flush 0\n' > "$room/waiting.txt"
 "$room/portlock" --bound 1 "$room/waiting.txt" > "$room/out"

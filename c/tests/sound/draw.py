@@ -1,5 +1,5 @@
 #!/usr/bin/env python3
-"""Random scenarios for drawn/, and what two searches of each find: draw.py PROGRAM FIRST COUNT. Each scenario, above a volume that doesn't cache, is drawn from its number, so that a number is all one has to keep. The
+"""Random scenarios for drawn/, and what two searches of each find: draw.py PROGRAM FIRST COUNT. Each scenario is drawn from its number, so that a number is all one has to keep. The
 default search has to find the ends that --whole finds, and no other, at each bound up to the last at which --whole has few schedules (DRAWN_MOST), by those of the bound before it. One with more at no
 preemption is left out, and counted, as is one that ends as a limit. `draw.py --show NUMBER` prints a scenario. Pairs of its steps are run in both orders,
 too. It ends with 1 if an end is lost or made up, or a pair is taken wrongly, and says which."""
@@ -14,6 +14,7 @@ import tempfile
 SECONDS = 10  # of a processor
 MOST = int(os.environ.get("DRAWN_MOST", "800"))
 PAIRS = "40"
+CACHED = float(os.environ.get("DRAWN_CACHED", "0.2"))  # of them are above a volume that caches, with one client more, which has pages written
 GROWS = 24  # so many times more schedules has one preemption, before it is known
 # Acts that go together: a program is drawn from some of these groups. Each sign is an act of its own (drawn/).
 GROUPS = {
@@ -76,6 +77,9 @@ def scenario(number):
         lines.append("client e: " + draw.choice(["create 0 new g; read $ 6 4; close $", "create 0 always g; close $; flush 0"]))
     lines.append("finally: flush 0; flush 0; detach 0; unload 0")
     words = draw.choice([[], [], [], ["--coarse"], ["--workers", "2"], ["--inline"], ["--fails", "1"], ["--late", "1"]])
+    if draw.random() < CACHED:
+        lines[0] = "volume 0 cached"
+        lines.insert(-1, draw.choice(["client l: lazy", "client v: write 0 64 6f; flush 0", "client l: lazy; flush 0"]))
     return "\n".join(lines) + "\n", words
 
 

@@ -55,14 +55,14 @@ drawn() {
     tell $? "random scenarios from $((FIRST + begin * count)) on"
 }
 
-# The drivers of a folder, but for those that refuse this set-up, and whose code doesn't come to an end.
+# The drivers of a folder; and those that don't refuse such a set-up, and come to an end in it.
 sources_of() {
     local folder=$tests/$1
     [ "$1" != samples ] || folder=c/samples
-    printf '%s\n' "$folder"/*.c "$folder"/*.cpp | grep -vE '/(\*\.cpp|ownio\.c|refused\.c|forever\.c|spins\.c)$'
+    printf '%s\n' "$folder"/*.c "$folder"/*.cpp | grep -v '[*]'
 }
 names_of() {
-    sources_of "$1" | sed 's,.*/,,; s,\..*,,'
+    sources_of "$1" | sed 's,.*/,,; s,\..*,,' | grep -vxE 'ownio|refused|forever|spins'
 }
 
 # A scenario's driver, by its first load.

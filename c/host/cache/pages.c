@@ -38,7 +38,7 @@ void kz_uses_writes(const KzCache *cache, KzUse how)
 void kz_reads_pages(const KzCache *cache, uint64_t first, uint64_t end)
 {
     kz_uses_table(cache, KZU_READS);
-    for (size_t at = place_of(cache, first); at < cache->count && cache->pages[at].number < end; at++)
+    for (size_t at = place_of(cache, first); kz_scheduler->is_timeless && at < cache->count && cache->pages[at].number < end; at++)
         kz_uses_page(cache, cache->pages[at].number, KZU_READS);
 }
 

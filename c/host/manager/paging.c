@@ -21,6 +21,8 @@
 static KzAnswer ask(const KzOwn *own, KzFile *file, KazdrinEvent event, const uint8_t *bytes, size_t length)
 {
     bool is_said = kz_me->is_paging;
+    if (!is_said)
+        kz_uses_all();
     kz_me->is_paging = false;
     KzAnswer answer = kz_below(own, file, event, bytes, length);
     kz_me->is_paging = is_said;

@@ -192,6 +192,7 @@ NTSTATUS kz_list_records(PFLT_VOLUME volume, const MFT_ENUM_DATA_V0 *asked, uint
     uint8_t record[LARGEST_RECORD];
     uint64_t next = asked->StartFileReferenceNumber;
     *length = sizeof next;
+    note_read();
     if (room < sizeof next)
         return STATUS_BUFFER_TOO_SMALL;
     const KzName *one = next_file(volume, asked, next);

@@ -138,7 +138,7 @@ for request in 'read a 0 5' 'write a 0 61' 'flush a'; do
     printf 'load forever\nattach 0 0 f 100\ncreate 0 new a as a\n%s\n' "$request" > "$room/forever.txt"
     case $request in
     read*) wanted='1[45], ' ;;
-    write*) wanted='29, ' ;;
+    write*) wanted='2[89], ' ;;
     *) wanted='4[01], line 4: flush a$' ;;
     esac
     endless "$wanted" "$room/forever.txt"

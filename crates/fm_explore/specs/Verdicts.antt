@@ -70,3 +70,4 @@ Expected false old new = (words : _) × (new ≡ old ++ record { kind = kind.Unm
 abbrev pub ran_status : TrialOrSearch → ℕ
 ran_status (ran.Trial status) = status
 ran_status (ran.Search status) = status
+ran_status (ran.Replay status) = status

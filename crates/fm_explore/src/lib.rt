@@ -11,6 +11,7 @@ mod options;
 mod program;
 mod run;
 mod scenario;
+mod scene;
 mod schedule;
 mod search;
 mod verdict;

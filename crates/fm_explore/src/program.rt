@@ -2,6 +2,7 @@
 
 ghost use Rattle.std.specs.Prelude.{◌≡◌, ◌<◌, true, All, IfOk, List, None, Ok, length};
 ghost use Rattle.fm_trial.specs.Verdicts.{PassesText};
+ghost use Rattle.fm_explore.specs.Searches.{FindsNothing, RunMade};
 ghost use Rattle.fm_explore.specs.Verdicts.{nothing_found, ran_status, search_status, stopped_by, with_found};
 
 use crate::found::{Found, FoundKind, RunFinding};
@@ -30,8 +31,10 @@ const WRONG: u8 = 2;
 pub enum TrialOrSearch {
     /// Scenarios were tried.
     Trial(u8),
-    /// A scenario was searched, or one schedule of it was run.
+    /// A scenario was searched.
     Search(u8),
+    /// One schedule of a scenario was run.
+    Replay(u8),
 }
 
 impl TrialOrSearch {
@@ -40,9 +43,18 @@ impl TrialOrSearch {
         ensures { result ≡ ran_status self }
     {
         match self {
-            TrialOrSearch::Trial(status) | TrialOrSearch::Search(status) => status,
+            TrialOrSearch::Trial(status)
+            | TrialOrSearch::Search(status)
+            | TrialOrSearch::Replay(status) => status,
         }
     }
+}
+
+// What a search ran, with its exit status: all schedules, or one.
+#[derive(Clone, Copy)]
+enum Searched {
+    All(u8),
+    One(u8),
 }
 
 // The error of a program whose memory is refused, or whose filters can't be made.
@@ -54,8 +66,8 @@ fn failed(status: Status) -> io::Error {
 }
 
 /// Runs scenarios as `fm_trial::trial` does; or, with the word `--explore`, one scenario in every order in which its clients' callbacks can come, and tells what was
-/// found, each with the schedule that is best to look at. It says which of these it did. A trial that ends with 0 promises what `fm_trial::trial` does; which findings
-/// give which status of a search is proved below, and that all orders are run is tested by rows.
+/// found, each with the schedule that is best to look at. It says which of these it did. A trial that ends with 0 promises what `fm_trial::trial` does. A search that ends with 0
+/// has run each path that its bound leaves, if all its runs are of one tree, and found nothing in any of them. What a run does at each step is tested by rows.
 ///
 /// `--bound N` runs all schedules with at most N preemptions (2 without the word), `--bound all` each schedule. `--ends` shows each end that differs, by what clients
 /// were answered and by the filters' totals. `--replay SCHEDULE` runs one schedule, and shows its steps.
@@ -72,7 +84,8 @@ where
     E: Fn(Global) -> Result<Vec<(Name, F)>, Status>,
     W: Write,
     requires { E.IsAlwaysCallable make }
-    ensures { IfOk result (λ ran. ran ≡ TrialOrSearch.Trial 0 → (texts : List _) × (0 < length texts) × All (PassesText F.Minifilter (λ filters. (alloc : _) × E.post make alloc (Ok filters))) texts) }
+    ensures search { IfOk result (λ ran. ran ≡ TrialOrSearch.Search 0 → (runs : List RunMade) × FindsNothing runs) }
+    ensures trial { IfOk result (λ ran. ran ≡ TrialOrSearch.Trial 0 → (texts : List _) × (0 < length texts) × All (PassesText F.Minifilter (λ filters. (alloc : _) × E.post make alloc (Ok filters))) texts) }
 {
     let alloc = rt.alloc();
     let words: Vec<String> = env::args(rt)?.skip(1).collect(alloc)?;
@@ -80,27 +93,30 @@ where
         let status = fm_trial::trial(rt, input, make, out)?;
         return Ok(TrialOrSearch::Trial(status));
     }
-    let status = search(rt, words.as_slice(), &make, out)?;
-    Ok(TrialOrSearch::Search(status))
+    match search(rt, words.as_slice(), &make, out)? {
+        Searched::All(status) => Ok(TrialOrSearch::Search(status)),
+        Searched::One(status) => Ok(TrialOrSearch::Replay(status)),
+    }
 }
 
-// Searches the scenario that the words name, or runs one schedule of it: its exit status.
-fn search<R, F, E, W>(rt: &R, words: &[String], make: &E, out: &mut W) -> io::Result<u8>
+// Searches the scenario that the words name, or runs one schedule of it.
+fn search<R, F, E, W>(rt: &R, words: &[String], make: &E, out: &mut W) -> io::Result<Searched>
 where
     R: Eprint + Files + AllocGlobal,
     F: Minifilter,
     E: Fn(Global) -> Result<Vec<(Name, F)>, Status>,
     W: Write,
     requires { E.IsAlwaysCallable make.now }
+    ensures { IfOk result (λ ran. ran ≡ Searched.All 0 → (runs : List RunMade) × FindsNothing runs) }
 {
     let Some(options) = Options::read(rt.alloc(), words)? else {
         eprintln!(rt;
             "behind --explore there are --bound N, --ends, --replay SCHEDULE and one file"
         )?;
-        return Ok(WRONG);
+        return Ok(Searched::All(WRONG));
     };
     let Some(scenario) = read_scenario(rt, options.file.as_str())? else {
-        return Ok(WRONG);
+        return Ok(Searched::All(WRONG));
     };
     explore(rt, &options, &scenario, make, out)
 }
@@ -162,13 +178,14 @@ fn explore<R, F, E, W>(
     scenario: &ClientScenario,
     make: &E,
     out: &mut W,
-) -> io::Result<u8>
+) -> io::Result<Searched>
 where
     R: Eprint + AllocGlobal,
     F: Minifilter,
     E: Fn(Global) -> Result<Vec<(Name, F)>, Status>,
     W: Write,
     requires { E.IsAlwaysCallable make.now }
+    ensures { IfOk result (λ ran. ran ≡ Searched.All 0 → (runs : List RunMade) × FindsNothing runs) }
 {
     let alloc = rt.alloc();
     if let Some(schedule) = &options.replay {
@@ -176,17 +193,21 @@ where
             eprintln!(rt;
                 "a schedule has clients of the scenario, each with `*` and a number of steps or without"
             )?;
-            return Ok(WRONG);
+            return Ok(Searched::One(WRONG));
         };
-        return replay(rt, scenario, clients, make, out);
+        let status = replay(rt, scenario, clients, make, out)?;
+        return Ok(Searched::One(status));
     }
     let bound = options.bound.unwrap_or(u32::MAX);
-    let search = Search::all(alloc, scenario, bound, make).map_err(failed)?;
+    let (search, status) = match Search::all_with_status(alloc, scenario, bound, make) {
+        Ok(ended) => ended,
+        Err(status) => return Err(failed(status)),
+    };
     let mut text = String::new(alloc);
     write_search(&mut text, options, &search)?;
     out.write_all(text.as_bytes())?;
     out.flush()?;
-    Ok(exit_status(search.verdict, search.stopped, search.is_tested))
+    Ok(Searched::All(status))
 }
 
 // Appends what a search came to.
@@ -308,8 +329,8 @@ where
     F: Minifilter,
     W: Write,
 {
-    run.shown = Some(String::new(rt.alloc()));
-    if let Some(line) = run.set_up().map_err(failed)? {
+    run.scene.shown = Some(String::new(rt.alloc()));
+    if let Some(line) = run.scene.set_up().map_err(failed)? {
         eprintln!(rt; "line {line} was refused")?;
         return Ok(UNTESTED);
     }
@@ -318,11 +339,11 @@ where
         eprintln!(rt; "the schedule names a client that can't go on there")?;
         return Ok(WRONG);
     }
-    run.finish().map_err(failed)?;
+    run.scene.finish().map_err(failed)?;
     write_run(rt.alloc(), run, out)?;
     out.flush()?;
-    let stopped = stopped_by(None, end, run.dropped());
-    Ok(replay_status(run.found.as_slice(), stopped))
+    let stopped = stopped_by(None, end, run.scene.dropped());
+    Ok(replay_status(run.scene.found.as_slice(), stopped))
 }
 
 // Writes the steps of a run, and what was found.
@@ -331,10 +352,10 @@ fn write_run<F: Minifilter, W: Write>(
     run: &ScheduleRun<'_, F>,
     out: &mut W,
 ) -> io::Result<()> {
-    if let Some(shown) = &run.shown {
+    if let Some(shown) = &run.scene.shown {
         out.write_all(shown.as_bytes())?;
     }
-    for finding in &run.found {
+    for finding in &run.scene.found {
         let line = match finding.kind {
             FoundKind::End => format!(in alloc; "{}", finding.words.as_str())?,
             kind => format!(in alloc; "{}{}\n", kind.word(), finding.words.as_str())?,

@@ -1,14 +1,18 @@
 //! All orders of a scenario.
 
-ghost use Rattle.std.specs.Prelude.{◌≡◌, IfOk};
-ghost use Rattle.fm_explore.specs.Verdicts.{search_status, stopped_by, with_found};
+ghost use Rattle.std.specs.Prelude.{◌≡◌, [], IfOk, List, None};
+ghost use Rattle.fm_choice.specs.Trees.{Takes};
+ghost use Rattle.fm_explore.specs.Orders.{TookPath};
+ghost use Rattle.fm_explore.specs.Searches.{FindsNothing, GoesOn, IsWhole, Notes, RunMade};
+ghost use Rattle.fm_explore.specs.Verdicts.{nothing_found, search_status, stopped_by, with_found};
 
 use crate::found::{BestSchedule, Found, FoundKind, RunFinding};
 use crate::run::{End, ScheduleRun};
 use crate::scenario::ClientScenario;
+use crate::scene::Scene;
 use crate::schedule::{Chooser, Schedule};
-use crate::verdict::Verdict;
-use fm_choice::next_path;
+use crate::verdict::{Verdict, either};
+use fm_choice::laws::whole_searches_run_all;
 use fm_filter::Minifilter;
 use fm_types::{Name, Status};
 use std::alloc::Global;
@@ -94,15 +98,10 @@ impl Search {
         F: Minifilter,
         E: Fn(Global) -> Result<Vec<(Name, F)>, Status>,
         requires { E.IsAlwaysCallable make.now }
+        ensures whole { IfOk result (λ search. search.stopped ≡ None → (runs : List RunMade) × IsWhole search runs) }
     {
-        let mut search = Search {
-            found: Vec::new(alloc),
-            verdict: Verdict::new(),
-            schedules: 0,
-            longest: 0,
-            is_tested: scenario.expects(),
-            stopped: None,
-        };
+        whole_searches_run_all();
+        let mut search = Search::new(alloc, scenario.expects());
         let mut path = Vec::new(alloc);
         for _ in 0..u64::MAX {
             let filters = make(alloc)?;
@@ -111,7 +110,40 @@ impl Search {
                 None => return Ok(search),
             }
         }
+        search.stopped = Some(Stopped::Endless);
         Ok(search)
+    }
+
+    /// The same, with its exit status: one that ends with 0 is whole, and found nothing in any run.
+    pub(crate) fn all_with_status<F, E>(
+        alloc: Global,
+        scenario: &ClientScenario,
+        bound: u32,
+        make: &E,
+    ) -> Result<(Search, u8), Status>
+    where
+        F: Minifilter,
+        E: Fn(Global) -> Result<Vec<(Name, F)>, Status>,
+        requires { E.IsAlwaysCallable make.now }
+        ensures { IfOk result (λ ended. ended.1 ≡ 0 → (runs : List RunMade) × FindsNothing runs) }
+    {
+        let search = Search::all(alloc, scenario, bound, make)?;
+        let status = exit_status(search.verdict, search.stopped, search.is_tested);
+        Ok((search, status))
+    }
+
+    // Before its first run.
+    fn new(alloc: Global, is_tested: bool) -> Search
+        ensures { (result.verdict ≡ nothing_found) × (result.stopped ≡ None) }
+    {
+        Search {
+            found: Vec::new(alloc),
+            verdict: Verdict::new(),
+            schedules: 0,
+            longest: 0,
+            is_tested,
+            stopped: None,
+        }
     }
 
     // Runs the schedule of a path: the path of the next one, if the search goes on. A run is dropped here alone.
@@ -122,7 +154,9 @@ impl Search {
         filters: Vec<(Name, F)>,
         path: Vec<usize>,
         bound: u32,
-    ) -> Result<Option<Vec<usize>>, Status> {
+    ) -> Result<Option<Vec<usize>>, Status>
+        ensures goes { IfOk result (λ next. self.new.stopped ≡ None → (run : RunMade) × Takes path.items run.choices × Notes run self.old self.new × GoesOn run next) }
+    {
         let chooser = Chooser::Path(path);
         let mut run = ScheduleRun::new(alloc, scenario, filters, chooser, bound)?;
         self.take_run(alloc, scenario, &mut run)
@@ -134,38 +168,50 @@ impl Search {
         alloc: Global,
         scenario: &ClientScenario,
         run: &mut ScheduleRun<'_, F>,
-    ) -> Result<Option<Vec<usize>>, Status> {
-        if let Some(line) = run.set_up()? {
+    ) -> Result<Option<Vec<usize>>, Status>
+        ensures goes { run.old.order.schedule.choices.items ≡ [] → IfOk result (λ next. self.new.stopped ≡ None → (made : RunMade) × TookPath run.old.order.chooser made.choices × Notes made self.old self.new × GoesOn made next) }
+    {
+        if let Some(line) = run.scene.set_up()? {
             self.stopped = Some(Stopped::SetUp(line));
             return Ok(None);
         }
         let end = run.play()?;
-        self.stopped = stopped_by(self.stopped, end, run.dropped());
+        self.stopped = stopped_by(self.stopped, end, run.scene.dropped());
         if end == End::Strayed {
             return Ok(None);
         }
-        run.finish()?;
-        self.is_tested = self.is_tested || run.is_heard();
-        self.schedules = self.schedules.saturating_add(1);
-        self.longest = self.longest.max(run.schedule.choices.len());
-        self.note_run(alloc, scenario, run)?;
-        let next = next_path(alloc, run.schedule.choices.as_slice())?;
+        run.scene.finish()?;
+        self.count_run(run.scene.is_heard(), run.order.schedule.choices.len());
+        let found = take_found(alloc, &mut run.scene);
+        self.note_run(alloc, scenario, &run.order.schedule, found)?;
+        let next = run.order.schedule.next_path(alloc)?;
         Ok(next)
     }
 
+    // Counts a run of so many choices, by which something was tested if a callback was called.
+    fn count_run(&mut self, is_heard: bool, choices: usize)
+        ensures { (self.new.verdict ≡ self.old.verdict) × (self.new.stopped ≡ self.old.stopped) }
+    {
+        self.is_tested = either(self.is_tested, is_heard);
+        self.schedules = self.schedules.saturating_add(1);
+        self.longest = self.longest.max(choices);
+    }
+
     // Notes what a run found, and what that comes to.
-    fn note_run<F: Minifilter>(
+    fn note_run(
         &mut self,
         alloc: Global,
         scenario: &ClientScenario,
-        run: &mut ScheduleRun<'_, F>,
+        schedule: &Schedule,
+        found: Vec<RunFinding>,
     ) -> Result<(), Status>
-        ensures verdict { IfOk result (λ done. self.new.verdict ≡ with_found self.old.verdict run.old.found.items) }
+        ensures verdict { IfOk result (λ done. self.new.verdict ≡ with_found self.old.verdict found.items) }
+        ensures same { IfOk result (λ done. self.new.stopped ≡ self.old.stopped) }
     {
-        let verdict = self.verdict.with_found(run.found.as_slice());
+        let verdict = self.verdict.with_found(found.as_slice());
         let names = scenario.names(alloc)?;
-        for finding in take_found(alloc, run) {
-            self.count(alloc, finding, &run.schedule, names.as_slice())?;
+        for finding in found {
+            self.count(alloc, finding, schedule, names.as_slice())?;
         }
         self.verdict = verdict;
         Ok(())
@@ -178,7 +224,9 @@ impl Search {
         finding: RunFinding,
         schedule: &Schedule,
         names: &[&str],
-    ) -> Result<(), Status> {
+    ) -> Result<(), Status>
+        ensures { self.new.stopped ≡ self.old.stopped }
+    {
         for found in &mut self.found {
             if found.is_same(&finding) {
                 if found.last == self.schedules {
@@ -215,6 +263,6 @@ impl Search {
 }
 
 // What a run found, taken from it.
-fn take_found<F: Minifilter>(alloc: Global, run: &mut ScheduleRun<'_, F>) -> Vec<RunFinding> {
-    std::mem::replace(&mut run.found, Vec::new(alloc))
+fn take_found<F: Minifilter>(alloc: Global, scene: &mut Scene<'_, F>) -> Vec<RunFinding> {
+    std::mem::replace(&mut scene.found, Vec::new(alloc))
 }

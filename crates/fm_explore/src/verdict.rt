@@ -41,8 +41,8 @@ fn are_stuck(found: &[RunFinding]) -> bool
     found.iter().any(|finding| is_stuck(finding.kind))
 }
 
-// Whether one is so.
-fn either(one: bool, other: bool) -> bool
+/// Whether one is so.
+pub(crate) fn either(one: bool, other: bool) -> bool
     ensures { result ≡ one || other }
 {
     one || other

@@ -1,6 +1,6 @@
 use Rattle.std.proofs.Common.{◌≡◌, ◌∙◌, Bool, true, false, sym, subst, refl}
 use Rattle.fm_explore.specs.Verdicts.{Expected, is_met_by}
-use Rattle.fm_explore.proofs.run.expect.Goals as goal
+use Rattle.fm_explore.proofs.scene.expect.Goals as goal
 
 pub returns-then-is_met : goal.returns-then-is_met
 returns-then-is_met c =

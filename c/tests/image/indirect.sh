@@ -5,7 +5,7 @@
 set -eu
 cd "$(dirname "$0")/../.."
 TABLES='kz_scheduler|kz\.store|kz\.observer|kz\.modules\[count\]|\(\*one\)'
-OWN='perform|put|give|part|turn|done|say|step|begin|end|can|is_over|go_on|host|life|sa_sigaction|on_told|sink|ask|serve|takes'
+OWN='inside|perform|put|give|part|turn|done|say|step|begin|end|can|is_over|go_on|host|life|sa_sigaction|on_told|sink|ask|serve|takes'
 places=$(find "$1/host" -name '*.o' ! -path '*/user/*' -print0 | xargs -0 -n 1 objdump -dl --no-show-raw-insn |
     awk '/^[^ \t].*host\/.*:[0-9]+/ { place = $1 } /[ \t]call +[*]/ { print place }' | sed 's,.*/c/,,; s,^\./,,' | LC_ALL=C sort -u)
 status=0

@@ -102,7 +102,8 @@ fn request_of(alloc: Global, random: &mut Random) -> Result<Request, Status> {
     Ok(Request::OnHandle { handle, request })
 }
 
-// The client's requests from the owner's beginning on, each after the answer of the one before. How many were answered.
+// The client's requests from the owner's beginning on, each after the answer of the one before; the first of them is a write, while `meter` is attached. How many were
+// answered.
 fn ask_all<L: Ledger, R: Wait>(
     rt: &R,
     alloc: Global,
@@ -119,7 +120,14 @@ fn ask_all<L: Ledger, R: Wait>(
         }
         thread::yield_now();
     }
-    for asked in 0..REQUESTS {
+    client.answer(Request::OnHandle {
+        handle: HandleId(0),
+        request: FileRequest::Write {
+            offset: 0,
+            bytes: Bytes::copy_of(alloc, b"ab")?,
+        },
+    })?;
+    for asked in 1..=REQUESTS {
         race.asked.store(asked, Ordering::SeqCst);
         if client.answer(request_of(alloc, &mut random)?).is_ok() {
             answered = answered.saturating_add(1);
@@ -209,6 +217,25 @@ fn wait_for_more(race: &Race, seen: u64) -> u64 {
     race.asked.load(Ordering::SeqCst)
 }
 
+// Attaches `meter`, whose contexts there are to be, and waits for a write.
+fn begin<L: Ledger, R: Wait>(
+    rt: &R,
+    owner: &mut OpenWorker<'_, L, R>,
+    race: &Race,
+) -> Result<(), Status> {
+    let name = Name::read(b"meter")?;
+    let filter = owner.load(&name)?;
+    let _ = owner.attach(filter, VOLUME, name, Altitude::read(b"250")?)?;
+    race.has_begun.store(true, Ordering::SeqCst);
+    'waits: for _ in rt.forever() {
+        if race.asked.load(Ordering::SeqCst) > 0 || race.is_over.load(Ordering::SeqCst) {
+            break 'waits;
+        }
+        thread::yield_now();
+    }
+    Ok(())
+}
+
 // Attaches and detaches until the client is over. What is refused is asked for again later, or never.
 fn manage<L: Ledger, R: Wait>(
     rt: &R,
@@ -219,12 +246,13 @@ fn manage<L: Ledger, R: Wait>(
 ) {
     let mut random = Random { state: seed };
     let mut seen = 0;
+    let _ = begin(rt, owner, race);
+    race.has_begun.store(true, Ordering::SeqCst);
     'turns: for _ in rt.forever() {
         if race.is_over.load(Ordering::SeqCst) {
             break 'turns;
         }
         seen = wait_for_more(race, seen);
-        race.has_begun.store(true, Ordering::SeqCst);
         match random.below(16) {
             0..=9 => {
                 let _ = attach_any(owner, &mut random);

@@ -71,6 +71,9 @@ typedef struct {
     IO_PRIORITY_HINT hint;
 } KzPriority;
 
+/* The longest path below a volume, with its ending null, and the same after a volume's name. A letter beyond ASCII takes five. */
+enum { KZ_PATH = 2048, KZ_WHOLE_PATH = KZ_PATH + 256 };
+
 /* An open file, as filters see it: the kit's structure first. */
 typedef struct KzFile {
     FILE_OBJECT object;
@@ -84,7 +87,7 @@ typedef struct KzFile {
     unsigned users; /* operations, and the handle */
     unsigned maker; /* the number of the client: lists are in this order, so that they are the same whoever came first */
     PFLT_VOLUME volume;
-    char path[256];      /* by which it was opened */
+    char *path;          /* by which it was opened */
     struct {
         NTSTATUS status;               /* why that is no name; STATUS_SUCCESS: it is one */
         bool is_of_directory, is_data, has_stream; /* what it says of what it opens */
@@ -102,7 +105,7 @@ typedef struct KzFile {
     PKTRANSACTION transaction; /* in which it was opened; NULL if in none */
     ULONG_PTR created;   /* what the file system made of its create: FILE_OPENED and its kin */
     struct {             /* of a directory */
-        char pattern[256], last[256];
+        char *pattern, *last; /* NULL: none yet */
         unsigned dots;
         bool is_begun;
     } scan;

@@ -77,7 +77,7 @@ struct KzClient {
     const void *owned;
     bool names_owner; /* what it waits for says who has it */
     char says[4096]; /* its last answer as text, up to its reply */
-    char reparsed[320]; /* the name that its last create was answered with, and what that asked for at its beginning */
+    char reparsed[KZ_WHOLE_PATH]; /* the name that its last create was answered with, and what that asked for at its beginning */
     KzCreate reparsed_create;
     struct {
         PFLT_INSTANCE instance; /* that sends an operation down again, inside FltReissueSynchronousIo; NULL if none does */

@@ -15,7 +15,7 @@ typedef struct {
     bool ignores_sharing; /* and is ignored by others' */
     bool is_volume;       /* the volume itself, and no file on it */
     PKTRANSACTION transaction; /* NULL if in none */
-    const char *target;   /* the name that a rename is to give, if it is the folder of that that is opened; else NULL */
+    bool is_target;       /* the folder of the name that a rename is to give: the file object says which */
 } KzCreate;
 
 #endif

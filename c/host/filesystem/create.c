@@ -124,7 +124,7 @@ static NTSTATUS check(KzOp *op, uint8_t mode, There there)
         return STATUS_DELETE_PENDING;
     if (kz_meets_tag(op, mode))
         return STATUS_REPARSE;
-    if (op->create.target && there != IS_FOLDER) /* what a rename leads to lies in no folder */
+    if (op->create.is_target && there != IS_FOLDER) /* what a rename leads to lies in no folder */
         return STATUS_OBJECT_PATH_NOT_FOUND;
     status = kz_check_above(name->volume, name->text, NT_SUCCESS(answers[IS_NOTHING][disposition_of(&op->create)]));
     if (NT_SUCCESS(status))

@@ -36,8 +36,8 @@ typedef struct {
 static void enter(void *given, const char *name)
 {
     const Entered *entered = given;
-    char text[600];
-    if (snprintf(text, sizeof text, "%s%s%s", entered->directory, *entered->directory ? "/" : "", name) <= 255)
+    char text[2 * KZ_PATH];
+    if (snprintf(text, sizeof text, "%s%s%s", entered->directory, *entered->directory ? "/" : "", name) < KZ_PATH)
         kz_let_go_name(kz_take_name(entered->volume, text));
 }
 

@@ -1,6 +1,7 @@
 /* The entries of a directory, by the kit's classes. */
 #include "filesystem/entries.h"
 
+#include "core/memory.h"
 #include "core/op.h"
 #include "lib/letters.h"
 #include "filesystem/disk.h"
@@ -10,6 +11,8 @@
 #include "filesystem/tag.h"
 #include "filesystem/tree.h"
 #include "filesystem/version.h"
+
+#include <stdlib.h>
 
 /* Where a class has what it says of a file: all but plain names begin as FILE_DIRECTORY_INFORMATION does. */
 typedef struct {
@@ -57,7 +60,7 @@ static int compare(const char *a, const char *b)
 
 static bool fits(const KzFile *file, const char *text)
 {
-    WCHAR pattern[256], name[300];
+    WCHAR pattern[KZ_PATH], name[KZ_PATH];
     UNICODE_STRING wide = {0, 0, pattern}, own = {0, 0, name};
     wide.Length = wide.MaximumLength = (USHORT)kz_widen(pattern, file->scan.pattern);
     own.Length = own.MaximumLength = (USHORT)kz_widen(name, text);
@@ -92,6 +95,13 @@ static bool next_entry(const KzFile *file, Entry *found)
     return found->name != NULL;
 }
 
+static void keep(char **kept, const char *text)
+{
+    char *copy = kz_copy_of(text);
+    free(*kept);
+    *kept = copy;
+}
+
 static void pass(KzFile *file, const Entry *entry)
 {
     if (strcmp(entry->name, ".") == 0 || strcmp(entry->name, "..") == 0) {
@@ -100,7 +110,7 @@ static void pass(KzFile *file, const Entry *entry)
     }
     file->scan.dots = 2;
     file->scan.is_begun = true;
-    snprintf(file->scan.last, sizeof file->scan.last, "%s", entry->name);
+    keep(&file->scan.last, entry->name);
 }
 
 static void show(uint8_t *to, const Shape *shape, const Entry *entry, PKTRANSACTION from)
@@ -123,16 +133,14 @@ static void show(uint8_t *to, const Shape *shape, const Entry *entry, PKTRANSACT
 static void begin_scan(KzFile *file, const FLT_PARAMETERS *now, bool is_restart)
 {
     PUNICODE_STRING pattern = now->DirectoryControl.QueryDirectory.FileName;
-    if (file->scan.pattern[0] && !is_restart)
+    if (file->scan.pattern && !is_restart)
         return;
-    if (is_restart || !file->scan.pattern[0]) {
-        file->scan.is_begun = false;
-        file->scan.dots = 0;
-    }
-    if (pattern && pattern->Length)
-        kz_narrow(file->scan.pattern, sizeof file->scan.pattern, pattern);
-    else if (!file->scan.pattern[0])
-        strcpy(file->scan.pattern, "*");
+    file->scan.is_begun = false;
+    file->scan.dots = 0;
+    char text[KZ_PATH];
+    kz_narrow(text, sizeof text, pattern);
+    if (*text || !file->scan.pattern)
+        keep(&file->scan.pattern, *text ? text : "*");
     kz_enter_folder(file->volume, file->name->text);
 }
 
@@ -147,7 +155,7 @@ static NTSTATUS list(KzOp *op, const FLT_PARAMETERS *now, const Shape *shape)
     KzFile *file = op->file;
     uint8_t *buffer = now->DirectoryControl.QueryDirectory.DirectoryBuffer, *before = NULL;
     size_t room = now->DirectoryControl.QueryDirectory.Length, place = 0;
-    bool is_first = !file->scan.pattern[0]; /* a restarted scan isn't the first one */
+    bool is_first = !file->scan.pattern; /* a restarted scan isn't the first one */
     Entry entry;
     if (room < least_of(shape))
         return STATUS_INFO_LENGTH_MISMATCH;

@@ -52,7 +52,7 @@ KzFile *kz_file_with(PFILE_OBJECT object)
 
 void kz_name_object(KzFile *file, const char *path)
 {
-    char text[600];
+    char text[KZ_WHOLE_PATH];
     snprintf(text, sizeof text, "/%s", path);
     kz_free_file_name(file);
     if (!kz_give_name(&file->object.FileName, text, false)) {
@@ -132,6 +132,9 @@ void kz_let_go_file(KzFile *file)
         }
     kz_free_file_name(file);
     kz_let_go_name(file->name);
+    free(file->path);
+    free(file->scan.pattern);
+    free(file->scan.last);
     free(file);
 }
 

@@ -31,7 +31,7 @@ static const ULONG NAMED[] = {USN_REASON_NAMED_DATA_OVERWRITE, USN_REASON_NAMED_
 
 static uint64_t parent_of(const KzName *name)
 {
-    char above[256];
+    char above[KZ_PATH];
     const char *slash = strrchr(name->text, '/');
     snprintf(above, sizeof above, "%.*s", slash ? (int)(slash - name->text) : 0, name->text);
     KzName *folder = kz_take_name(name->volume, above);

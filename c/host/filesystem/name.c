@@ -84,7 +84,7 @@ bool kz_is_same_name(PFLT_VOLUME volume, const char *a, const char *b, size_t le
 KzName *kz_find_name(PFLT_VOLUME volume, const char *text)
 {
     for (KzName *one = kz.tree->places[kz_name_place(volume, text)]; one; one = one->same)
-        if (!one->is_gone && one->volume == volume && kz_is_same_name(volume, one->text, text, sizeof one->text))
+        if (!one->is_gone && one->volume == volume && kz_is_same_name(volume, one->text, text, KZ_PATH))
             return one;
     return NULL;
 }
@@ -122,7 +122,7 @@ KzName *kz_add_name(const char *text, KzStream *stream)
     made->volume = stream->file->volume;
     made->file = stream->file;
     made->stream = stream;
-    snprintf(made->text, sizeof made->text, "%s", text);
+    made->text = kz_copy_of(text);
     made->file->names++;
     stream->names++;
     put_in(made);
@@ -131,8 +131,10 @@ KzName *kz_add_name(const char *text, KzStream *stream)
 
 void kz_move_name(KzName *name, const char *text)
 {
+    char *fresh = kz_copy_of(text);
     take_out(name);
-    snprintf(name->text, sizeof name->text, "%s", text);
+    free(name->text);
+    name->text = fresh;
     name->cached = 0;
     put_in(name);
 }
@@ -169,8 +171,8 @@ bool kz_is_there(KzName *name)
 
 void kz_tell_long_path(const char *text, const char *call)
 {
-    if (strlen(text) > LONGEST_PATH)
-        kz_tell(KZM_LONG_PATH, call, "a path that counts %zu letters, and 255 are taken: it answers STATUS_OBJECT_NAME_INVALID", strlen(text));
+    if (strlen(text) >= KZ_PATH)
+        kz_tell(KZM_LONG_PATH, call, "a path that counts %zu letters, and %d are taken: it answers STATUS_OBJECT_NAME_INVALID", strlen(text), KZ_PATH - 1);
 }
 
 /* The name of a file with one of its streams keeps the file's own name. */
@@ -204,7 +206,7 @@ KzName *kz_take_name(PFLT_VOLUME volume, const char *text)
 KzName *kz_take_any_name(PFLT_VOLUME volume, const char *text)
 {
     KzName *name = kz_take_name(volume, text);
-    if (name || strlen(text) > LONGEST_PATH)
+    if (name || strlen(text) >= KZ_PATH)
         return name;
     name = kz_add_name(text, kz_new_record(volume, text)->streams);
     name->is_gone = true;
@@ -223,6 +225,7 @@ static void free_name(KzName *name)
     KzStream *stream = name->stream;
     KzName *base = name->base;
     take_out(name);
+    free(name->text);
     free(name);
     if (--stream->names == 0 && *stream->name && !stream->exists)
         kz_free_stream(stream);
@@ -261,6 +264,7 @@ static void free_tree(void)
     while (kz.tree->first) {
         KzName *gone = kz.tree->first;
         kz.tree->first = gone->next;
+        free(gone->text);
         free(gone);
     }
 }

@@ -74,7 +74,7 @@ static void keep(Watch *watch, const char *rest, ULONG action)
 {
     struct {
         ULONG next, action, length;
-        WCHAR name[260];
+        WCHAR name[KZ_PATH];
     } change = {.action = action};
     change.length = kz_widen(change.name, rest);
     size_t size = offsetof(FILE_NOTIFY_INFORMATION, FileName) + change.length, place = (watch->length + 3) & ~(size_t)3;

@@ -200,7 +200,7 @@ NTSTATUS kz_open_beside(KzOp *op)
 
 void kz_folder_changed(const KzName *name)
 {
-    char above[256];
+    char above[KZ_PATH];
     if (!kz.oplocks)
         return;
     const char *slash = strrchr(name->text, '/');

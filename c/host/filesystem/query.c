@@ -108,7 +108,7 @@ NTSTATUS kz_put_answer(const KzRoom *room, const void *bytes, size_t size, size_
 /* ---- Names. That below the volume, with the backslash in front of it. */
 static ULONG wide_name(const KzFile *file, WCHAR *room)
 {
-    char text[300];
+    char text[KZ_WHOLE_PATH];
     snprintf(text, sizeof text, "/%s", kz_name_now(file));
     return kz_widen(room, text);
 }
@@ -117,7 +117,7 @@ static NTSTATUS query_name(const KzFile *file, const KzRoom *room)
 {
     struct {
         ULONG length;
-        WCHAR name[300];
+        WCHAR name[KZ_WHOLE_PATH];
     } name;
     name.length = wide_name(file, name.name);
     return kz_put_answer(room, &name, offsetof(FILE_NAME_INFORMATION, FileName) + name.length, sizeof(FILE_NAME_INFORMATION));
@@ -127,10 +127,10 @@ static NTSTATUS query_all(const KzFile *file, const KzRoom *room)
 {
     union {
         FILE_ALL_INFORMATION all;
-        uint8_t bytes[sizeof(FILE_ALL_INFORMATION) + 600];
+        uint8_t bytes[sizeof(FILE_ALL_INFORMATION) + sizeof(WCHAR) * KZ_WHOLE_PATH];
     } said;
     const KzRecord *record = file->name->file;
-    WCHAR name[300];
+    WCHAR name[KZ_WHOLE_PATH];
     memset(&said, 0, sizeof said);
     const KzFacts facts = kz_facts_of(file->name->stream, file->transaction);
     show_basic(&facts, &said.all.BasicInformation);
@@ -154,8 +154,8 @@ typedef struct {
 
 static bool put_stream(Streams *streams, const KzStream *stream, const KzFacts *facts)
 {
-    WCHAR wide[300];
-    char text[300];
+    WCHAR wide[KZ_WHOLE_PATH];
+    char text[KZ_WHOLE_PATH];
     snprintf(text, sizeof text, ":%s:$DATA", stream->name);
     ULONG length = kz_widen(wide, text);
     size_t size = offsetof(FILE_STREAM_INFORMATION, StreamName) + length;

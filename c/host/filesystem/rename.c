@@ -50,10 +50,10 @@ static KzFile *root_of(HANDLE root)
 
 bool kz_destination(const KzFile *file, HANDLE root, const WCHAR *name, ULONG length, char *text, size_t size)
 {
-    char said[300];
+    char said[KZ_WHOLE_PATH];
     UNICODE_STRING given = {(USHORT)length, (USHORT)length, (PWSTR)name};
     const char *own = kz_name_now(file), *slash = strrchr(own, '/'), *colon = strchr(slash ? slash : own, ':');
-    if (!length || length > 600 || kz_narrow(said, sizeof said, &given) >= sizeof said)
+    if (!length || kz_narrow(said, sizeof said, &given) >= sizeof said)
         return false;
     int put;
     if (root) {
@@ -76,7 +76,7 @@ bool kz_destination(const KzFile *file, HANDLE root, const WCHAR *name, ULONG le
 
 bool kz_name_in_target(const KzFile *folder, char *text, size_t size)
 {
-    char said[300];
+    char said[KZ_WHOLE_PATH];
     if (!folder || !folder->name || kz_narrow(said, sizeof said, &folder->object.FileName) >= sizeof said)
         return false;
     const char *slash = strrchr(said, '/'), *above = folder->name->text;
@@ -137,7 +137,7 @@ static NTSTATUS target_status(const KzName *from, KzName *to, ULONG flags, bool 
 /* ---- What moves. */
 static bool has_file_above(PFLT_VOLUME volume, const char *text)
 {
-    char above[256];
+    char above[KZ_PATH];
     bool has_file = false;
     for (const char *slash = is_over_memory(volume) ? strchr(text, '/') : NULL; slash && !has_file; slash = strchr(slash + 1, '/')) {
         snprintf(above, sizeof above, "%.*s", (int)(slash - text), text);
@@ -159,7 +159,7 @@ static bool is_lacking(PFLT_VOLUME volume, const char *above)
 /* Where folders are made a folder of the machine is asked as the name is made in it. */
 NTSTATUS kz_check_above(PFLT_VOLUME volume, const char *text, bool makes)
 {
-    char above[256];
+    char above[KZ_PATH];
     const char *slash = strrchr(text, '/');
     if (!slash)
         return STATUS_SUCCESS;
@@ -174,7 +174,7 @@ NTSTATUS kz_check_above(PFLT_VOLUME volume, const char *text, bool makes)
 
 void kz_make_above(PFLT_VOLUME volume, const char *text)
 {
-    char above[256];
+    char above[KZ_PATH];
     for (const char *slash = is_over_memory(volume) ? strchr(text, '/') : NULL; slash; slash = strchr(slash + 1, '/')) {
         snprintf(above, sizeof above, "%.*s", (int)(slash - text), text);
         KzName *name = kz_take_name(volume, above);
@@ -187,7 +187,7 @@ void kz_make_above(PFLT_VOLUME volume, const char *text)
 /* The names below a folder, and those with a file's streams: first all are marked, since one that was moved may be below the old name too. */
 static void move_with(PFLT_VOLUME volume, const char *from, const char *to)
 {
-    char text[600];
+    char text[2 * KZ_PATH];
     size_t length = strlen(from);
     for (KzName *one = kz_all_names(); one; one = one->next)
         one->is_to_move = !one->is_gone && one->volume == volume && kz_is_same_name(volume, one->text, from, length) && (one->text[length] == ':' || one->text[length] == '/');
@@ -196,7 +196,7 @@ static void move_with(PFLT_VOLUME volume, const char *from, const char *to)
         if (!one->is_to_move)
             continue;
         one->is_to_move = false;
-        if (snprintf(text, sizeof text, "%s%s", to, one->text + length) > LONGEST_PATH)
+        if (snprintf(text, sizeof text, "%s%s", to, one->text + length) >= KZ_PATH)
             continue;
         kz_move_name(one, text);
         next = kz_all_names();
@@ -220,10 +220,10 @@ static bool is_in_same_folder(const char *old, const char *fresh)
 
 void kz_move_to(KzName *from, const char *text)
 {
-    char old[256];
+    char old[KZ_PATH];
     ULONG filter = kz_is_directory(from) ? FILE_NOTIFY_CHANGE_DIR_NAME : FILE_NOTIFY_CHANGE_FILE_NAME;
     bool stays = is_in_same_folder(from->text, text);
-    memcpy(old, from->text, sizeof old);
+    strcpy(old, from->text);
     kz_journal(from, USN_REASON_RENAME_OLD_NAME);
     kz_notify(from, filter, stays ? FILE_ACTION_RENAMED_OLD_NAME : FILE_ACTION_REMOVED);
     kz_put_in_tunnel(from);
@@ -243,13 +243,13 @@ static NTSTATUS move_file(KzName *from, const char *text)
 static NTSTATUS name_stream(KzName *from, const char *text)
 {
     KzStream *stream = from->stream;
-    char fresh[256], whole[600];
+    char fresh[KZ_PATH], whole[2 * KZ_PATH];
     snprintf(fresh, sizeof fresh, "%s", text + strlen(from->base->text) + 1);
     kz_notify(from, FILE_NOTIFY_CHANGE_FILE_NAME, FILE_ACTION_RENAMED_OLD_NAME);
     kz_name_stream(stream, fresh);
     for (KzName *one = kz_all_names(), *next; one; one = next) {
         next = one->next;
-        if (one->stream != stream || one->is_gone || snprintf(whole, sizeof whole, "%s:%s", one->base->text, fresh) > LONGEST_PATH || strcmp(one->text, whole) == 0)
+        if (one->stream != stream || one->is_gone || snprintf(whole, sizeof whole, "%s:%s", one->base->text, fresh) >= KZ_PATH || strcmp(one->text, whole) == 0)
             continue;
         kz_move_name(one, whole);
         next = kz_all_names();

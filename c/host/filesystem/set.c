@@ -54,7 +54,7 @@ static NTSTATUS set_basic(KzName *name, const FILE_BASIC_INFORMATION *said)
 /* A rename or a link; in the extended classes the first field has flags. */
 static NTSTATUS set_name(KzFile *file, const FLT_PARAMETERS *now, bool is_link, bool is_extended)
 {
-    char text[600];
+    char text[KZ_WHOLE_PATH];
     const FILE_RENAME_INFORMATION *said = now->SetFileInformation.InfoBuffer;
     size_t head = offsetof(FILE_RENAME_INFORMATION, FileName);
     if (now->SetFileInformation.Length < head || now->SetFileInformation.Length - head < said->FileNameLength)

@@ -8,6 +8,7 @@
 #include "filesystem/deletion.h"
 #include "filesystem/name.h"
 #include "filesystem/record.h"
+#include "filesystem/rename.h"
 #include "filesystem/spelling.h"
 #include "filesystem/stream.h"
 #include "lib/share.h"
@@ -97,11 +98,18 @@ static void give_allocation(KzName *name, const KzCreate *create)
         name->stream->allocation = kz_allocated(name->volume, (uint64_t)create->allocation);
 }
 
-static ULONG_PTR result_of(const KzCreate *create, PFLT_VOLUME volume, bool was_there)
+/* A folder that a rename opens: what the name of its file object leads to. */
+static ULONG_PTR result_of_target(const KzFile *folder)
 {
-    const KzName *target = create->target ? kz_find_name(volume, create->target) : NULL;
-    if (create->target)
-        return target && kz_exists(target) ? FILE_EXISTS : FILE_DOES_NOT_EXIST;
+    char text[KZ_WHOLE_PATH];
+    const KzName *target = kz_name_in_target(folder, text, sizeof text) ? kz_find_name(folder->volume, text) : NULL;
+    return target && kz_exists(target) ? FILE_EXISTS : FILE_DOES_NOT_EXIST;
+}
+
+static ULONG_PTR result_of(const KzFile *file, const KzCreate *create, bool was_there)
+{
+    if (create->is_target)
+        return result_of_target(file);
     if (!was_there)
         return FILE_CREATED;
     if (!kz_is_emptied(create))
@@ -116,9 +124,9 @@ void kz_note_opened(KzOp *op, bool was_there, bool had_file)
     file->object.Flags = (file->object.Flags & ~(ULONG)FO_SYNCHRONOUS_IO) | flags_of(create);
     file->access = create->access;
     file->asks_next = create->options & (FILE_OPEN_REQUIRING_OPLOCK | FILE_RESERVE_OPFILTER);
-    file->created = result_of(create, file->volume, was_there);
+    file->created = result_of(file, create, was_there);
     share(file, create);
-    if (file->created == FILE_OPENED || create->target)
+    if (file->created == FILE_OPENED || create->is_target)
         return;
     KzName *name = file->name;
     if (!name)

@@ -1,6 +1,7 @@
 /* A name of a file, as NTFS reads it. */
 #include "filesystem/spelling.h"
 
+#include "core/memory.h"
 #include "core/spell.h"
 #include "filesystem/disk.h"
 #include "lib/letters.h"
@@ -111,7 +112,7 @@ static bool is_separator(char letter)
 NTSTATUS kz_read_spelling(const char *text, KzSpelling *read)
 {
     *read = (KzSpelling){.status = STATUS_OBJECT_NAME_INVALID};
-    if (strlen(text) > LONGEST_PATH)
+    if (strlen(text) >= KZ_PATH)
         return read->status;
     text += is_separator(*text);
     if (!*text || read_parts(text, read))
@@ -137,7 +138,9 @@ void kz_spell_file(KzFile *file, const char *path)
 {
     KzSpelling read;
     kz_read_spelling(path, &read);
-    snprintf(file->path, sizeof file->path, "%.255s", path);
+    char *kept = kz_copy_of(path);
+    free(file->path);
+    file->path = kept;
     file->spelt.status = read.status;
     file->spelt.is_of_directory = read.has_end || read.is_index;
     file->spelt.is_data = read.is_data;

@@ -7,7 +7,7 @@
 
 typedef struct {
     NTSTATUS status;   /* STATUS_SUCCESS, or why it is no name: the rest says nothing then */
-    char text[256];    /* as the tree has it: with `/` between its parts and with no type */
+    char text[KZ_PATH]; /* as the tree has it: with `/` between its parts and with no type */
     size_t last, file; /* where its last part begins, and where the file's name ends: a stream's is after that, with a colon in front */
     bool has_end;      /* a separator stands at its end: a directory opens by it, and nothing else */
     bool is_index;     /* its type is that of directories */

@@ -187,7 +187,7 @@ static bool meet(KzOp *op, const KzRecord *record, size_t rest)
 /* A directory above it. */
 static bool meets_above(KzOp *op, const KzName *name)
 {
-    char above[256];
+    char above[KZ_PATH];
     for (const char *slash = strchr(name->text, '/'); slash; slash = strchr(slash + 1, '/')) {
         snprintf(above, sizeof above, "%.*s", (int)(slash - name->text), name->text);
         const KzName *one = kz_find_name(name->volume, above);

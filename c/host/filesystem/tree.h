@@ -81,7 +81,7 @@ typedef struct KzName {
     struct KzName *next, *before;
     struct KzName *same; /* the next one of the same place by its text */
     PFLT_VOLUME volume;
-    char text[256];
+    char *text;
     KzRecord *file;
     KzStream *stream;
     struct KzName *base; /* of a name with a stream: that of the file alone; else NULL */

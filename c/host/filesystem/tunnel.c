@@ -12,7 +12,7 @@ enum { KEPT = 16 };
 
 typedef struct {
     PFLT_VOLUME volume; /* NULL if the place is free */
-    char text[256];
+    char text[KZ_PATH];
     LONGLONG created, when;
 } Tunneled;
 
@@ -25,7 +25,7 @@ void kz_put_in_tunnel(const KzName *name)
 {
     Tunneled *one = &kz.tunnel->kept[kz.tunnel->next++ % KEPT];
     one->volume = name->volume;
-    memcpy(one->text, name->text, sizeof one->text);
+    strcpy(one->text, name->text);
     one->created = name->file->created;
     one->when = kz_time();
 }

@@ -29,7 +29,7 @@ typedef struct KzVersion {
     struct KzVersion *next;
     PKTRANSACTION by;
     KzName *name;
-    char path[256]; /* that it had */
+    char *path; /* that it had */
     bool was_there, is_deleted;
     KzFacts facts; /* of the file; sizes are the streams' */
     Old *streams;
@@ -182,7 +182,7 @@ NTSTATUS kz_check_version(const KzFile *file, const KzCreate *create, bool is_ma
 /* ---- What is kept. */
 static KzName *name_of(const KzName *file, const KzStream *stream)
 {
-    char text[600];
+    char text[KZ_WHOLE_PATH];
     snprintf(text, sizeof text, "%s%s%s", file->text, *stream->name ? ":" : "", stream->name);
     return kz_take_name(file->volume, text);
 }
@@ -223,7 +223,7 @@ void kz_begin_version(KzFile *file, const KzCreate *create, bool was_there, bool
     *made = (KzVersion){.next = by->versions, .by = by, .name = own, .was_there = had_file, .facts = kz_facts_of(record->streams, NULL)};
     made->facts.size = made->facts.allocation = 0;
     made->facts.pages = NULL;
-    snprintf(made->path, sizeof made->path, "%s", own->text);
+    made->path = kz_copy_of(own->text);
     kz_keep_name(own);
     if (had_file)
         keep_streams(made, own, was_there ? NULL : name->stream, file);
@@ -351,6 +351,7 @@ void kz_end_versions(PKTRANSACTION transaction, bool is_committed)
             kz_delete_name(one->name);
         end_streams(one);
         kz_let_go_name(one->name);
+        free(one->path);
         free(one);
     }
 }
@@ -368,6 +369,7 @@ static void free_transactions(void)
         for (KzVersion *one = gone->versions, *next; one; one = next) {
             next = one->next;
             free_streams(one);
+            free(one->path);
             free(one);
         }
         for (KzMember *one = gone->members, *next; one; one = next) {

@@ -40,7 +40,7 @@ static NTSTATUS ask_by_handle(HANDLE handle, PIO_STATUS_BLOCK to, const KzAsked 
 
 /* ---- Directories. */
 typedef struct {
-    char text[256];
+    char text[KZ_PATH];
     KzAsked asked;
 } Listing;
 

@@ -23,7 +23,7 @@
 /* ---- Names: below a volume's device or its letter, from a directory's handle, or as the kit's own folders have them. */
 typedef struct {
     PFLT_VOLUME volume;
-    char path[256];
+    char path[KZ_PATH];
     bool is_volume; /* and nothing on it */
 } Named;
 
@@ -39,7 +39,7 @@ static bool is_of_system(const char *name)
 
 static NTSTATUS name_of(POBJECT_ATTRIBUTES attributes, Named *named)
 {
-    char name[2000];
+    char name[KZ_WHOLE_PATH];
     const char *rest = name;
     if (!attributes || !attributes->ObjectName)
         return STATUS_INVALID_PARAMETER;
@@ -61,7 +61,7 @@ static NTSTATUS name_of(POBJECT_ATTRIBUTES attributes, Named *named)
     const char *begins = root ? kz_name_now(root) : "";
     named->is_volume = !root && !*rest;
     rest += *rest == '/';
-    char path[2300];
+    char path[2 * KZ_WHOLE_PATH];
     snprintf(path, sizeof path, "%s%s%s", begins, *begins && *rest ? "/" : "", rest);
     kz_tell_long_path(path, "a create");
     if (strlen(path) >= sizeof named->path)
@@ -145,7 +145,7 @@ static NTSTATUS name_by_id(const Wanted *wanted, Named *named)
     if (!found)
         return STATUS_INVALID_PARAMETER;
     named->volume = volume;
-    memcpy(named->path, found->text, sizeof named->path);
+    strcpy(named->path, found->text);
     return STATUS_SUCCESS;
 }
 

@@ -84,7 +84,7 @@ static NTSTATUS show_name(PFLT_VOLUME volume, const char *whole, FLT_FILE_NAME_O
 
 static NTSTATUS name_of(PFLT_VOLUME volume, const char *path, FLT_FILE_NAME_OPTIONS options, PFLT_FILE_NAME_INFORMATION *shown)
 {
-    char whole[400];
+    char whole[KZ_WHOLE_PATH];
     device_name(whole, sizeof whole, volume);
     snprintf(whole + strlen(whole), sizeof whole - strlen(whole), "/%s", path);
     return show_name(volume, whole, options, shown);
@@ -93,7 +93,7 @@ static NTSTATUS name_of(PFLT_VOLUME volume, const char *path, FLT_FILE_NAME_OPTI
 /* ---- Which name. That of a file that is open is the one that it has now; before that, as its create says it, or normalized: each part that is there as that is spelt. */
 static void normalize(PFLT_VOLUME volume, const char *path, char *text, size_t size)
 {
-    char part[256];
+    char part[KZ_PATH];
     size_t used = 0;
     for (const char *end = path;; end++) {
         if (*end && *end != '/')
@@ -187,12 +187,12 @@ NTSTATUS FltGetFileNameInformation(PFLT_CALLBACK_DATA CallbackData, FLT_FILE_NAM
         return STATUS_FLT_NAME_CACHE_MISS;
     if (op->maker == kz_me->number)
         use_names(cached, NameOptions);
-    char text[600];
+    char text[KZ_WHOLE_PATH];
     NTSTATUS status;
     PFLT_INSTANCE asker = kz_me->place.instance ? kz_me->place.instance : CallbackData->Iopb->TargetInstance;
     if (kz_ask_provider(&(KzNameAsked){asker, op->file, op, CallbackData, NameOptions}, text, sizeof text, &status))
         return NT_SUCCESS(status) ? show_name(op->volume, text, NameOptions, FileNameInformation) : status;
-    spell(op, FltGetFileNameFormat(NameOptions), text, 300);
+    spell(op, FltGetFileNameFormat(NameOptions), text, sizeof text);
     if (op->file->is_volume)
         device_name(text, sizeof text, op->volume);
     return note_cached(op->file->is_volume ? show_name(op->volume, text, NameOptions, FileNameInformation) : name_of(op->volume, text, NameOptions, FileNameInformation), cached, NameOptions);
@@ -218,7 +218,7 @@ NTSTATUS FltGetFileNameInformationUnsafe(PFILE_OBJECT FileObject, PFLT_INSTANCE 
     uint8_t *cached = cached_of(file, true);
     if (is_cache_miss(cached, NameOptions))
         return STATUS_FLT_NAME_CACHE_MISS;
-    char text[600];
+    char text[KZ_WHOLE_PATH];
     NTSTATUS status;
     if (kz_ask_provider(&(KzNameAsked){Instance, file, NULL, NULL, NameOptions}, text, sizeof text, &status))
         return NT_SUCCESS(status) ? show_name(file->volume, text, NameOptions, FileNameInformation) : status;
@@ -230,7 +230,7 @@ NTSTATUS FltGetDestinationFileNameInformation(PFLT_INSTANCE Instance, PFILE_OBJE
                                               FLT_FILE_NAME_OPTIONS NameOptions, PFLT_FILE_NAME_INFORMATION *RetFileNameInformation)
 {
     KZ_CALL();
-    char asked[600], text[600], whole[700];
+    char asked[KZ_WHOLE_PATH], text[KZ_WHOLE_PATH], whole[KZ_WHOLE_PATH + 100];
     *RetFileNameInformation = NULL;
     KzFile *file = kz_may_use(__func__, Instance) ? kz_file_with(FileObject) : NULL;
     if (!file || !FileName || !kz_destination(file, RootDirectory, FileName, FileNameLength, asked, sizeof asked))

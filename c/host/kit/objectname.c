@@ -31,7 +31,7 @@ NTSTATUS ObQueryNameString(PVOID Object, POBJECT_NAME_INFORMATION ObjectNameInfo
     kz_scheduler->uses(&kz.files, KZU_READS);
     kz_uses_bytes(ObjectNameInfo, ObjectNameInfo ? Length : 0, KZU_WRITES);
     kz_gives(ReturnLength);
-    char text[600];
+    char text[KZ_WHOLE_PATH];
     bool is_named = name_of(Object, text, sizeof text);
     size_t letters = kz_letters(text), needed = sizeof *ObjectNameInfo + (is_named ? (letters + 1) * sizeof(WCHAR) : 0);
     *ReturnLength = (ULONG)needed;
@@ -53,7 +53,7 @@ NTSTATUS IoQueryFileDosDeviceName(PFILE_OBJECT FileObject, POBJECT_NAME_INFORMAT
     KZ_INSIDE_ALONE();
     kz_scheduler->uses(&kz.files, KZU_READS);
     kz_gives(ObjectNameInformation);
-    char text[600];
+    char text[KZ_WHOLE_PATH];
     const KzFile *file = kz_file_with(FileObject);
     *ObjectNameInformation = NULL;
     if (!file)

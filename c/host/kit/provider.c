@@ -122,14 +122,14 @@ static void expand(Normalizing *now, const char *parent, const char *part, char 
 
 static void normalize(Normalizing *now, char *room, size_t size)
 {
-    char parent[600], part[300];
+    char parent[KZ_WHOLE_PATH], part[KZ_WHOLE_PATH];
     size_t used = now->volume / sizeof(WCHAR);
     while (room[used]) {
         size_t length = strcspn(room + used + 1, "/");
         snprintf(parent, sizeof parent, "%.*s", (int)(used > now->volume / sizeof(WCHAR) ? used : used + 1), room); /* the root ends with a backslash */
         snprintf(part, sizeof part, "%.*s", (int)length, room + used + 1);
         if (strchr(part, '~')) {
-            char rest[600], *behind = room + used + 1 + length;
+            char rest[KZ_WHOLE_PATH], *behind = room + used + 1 + length;
             snprintf(rest, sizeof rest, "%s", behind);
             expand(now, parent, part, part, sizeof part);
             snprintf(room + used + 1, size - used - 1, "%s%s", part, rest);

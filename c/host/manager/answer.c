@@ -35,7 +35,7 @@ static size_t show_names(const uint8_t *names, size_t length, uint8_t *chain, si
     for (size_t at = 0; at < length; at++) {
         if (names[at] != '\n')
             continue;
-        char text[300];
+        char text[KZ_PATH];
         snprintf(text, sizeof text, "%.*s", (int)(at - start), (const char *)names + start);
         size_t size = entry_size(kz_letters(text));
         if (place + size > room)
@@ -60,7 +60,7 @@ static size_t names_in(const uint8_t *chain, size_t size, uint8_t *room, size_t 
         const FILE_NAMES_INFORMATION *entry = (const FILE_NAMES_INFORMATION *)(chain + place);
         size_t letters = entry->FileNameLength / sizeof(WCHAR);
         const UNICODE_STRING name = {(USHORT)entry->FileNameLength, 0, (PWSTR)entry->FileName};
-        char text[300];
+        char text[KZ_PATH];
         if (entry_size(letters) > size - place || length + kz_narrow(text, sizeof text, &name) + 1 > space)
             break;
         length += (size_t)snprintf((char *)room + length, space - length, "%s\n", text);

@@ -132,7 +132,7 @@ void kz_show_data(KzOp *op, PFLT_INSTANCE instance)
     op->iopb->IrpFlags = op->own.is_fast ? 0 : irp_flags_of(op->event) | op->own.irp_flags;
     op->iopb->MajorFunction = kz_major_of(op);
     op->iopb->MinorFunction = op->event == KZE_LIST ? IRP_MN_QUERY_DIRECTORY : IRP_MN_NORMAL;
-    op->iopb->OperationFlags = op->event == KZE_LIST ? SL_RESTART_SCAN : op->create.target ? SL_OPEN_TARGET_DIRECTORY | SL_FORCE_ACCESS_CHECK : 0;
+    op->iopb->OperationFlags = op->event == KZE_LIST ? SL_RESTART_SCAN : op->create.is_target ? SL_OPEN_TARGET_DIRECTORY | SL_FORCE_ACCESS_CHECK : 0;
     op->iopb->TargetFileObject = &op->file->object;
     op->iopb->TargetInstance = instance;
     op->shown.asked = NULL;

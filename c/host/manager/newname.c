@@ -131,16 +131,16 @@ static void take(KzOp *op, PFLT_INSTANCE instance, const char *path)
 
 void kz_take_new_name(KzOp *op, PFLT_INSTANCE instance)
 {
-    char said[300], own[300];
-    WCHAR letters[300];
-    if (op->event != KZE_CREATE || op->create.target || op->file->is_volume || !op->file->name)
+    char said[KZ_WHOLE_PATH], own[KZ_WHOLE_PATH];
+    WCHAR letters[KZ_WHOLE_PATH];
+    if (op->event != KZE_CREATE || op->create.is_target || op->file->is_volume || !op->file->name)
         return;
     size_t length = kz_narrow(said, sizeof said, &op->file->object.FileName);
     bool has_root = said[0] == '/';
     snprintf(own, sizeof own, "/%s", op->file->path);
     if (kz_widen(letters, own) == op->file->object.FileName.Length && memcmp(letters, op->file->object.FileName.Buffer, op->file->object.FileName.Length) == 0)
         return; /* it is as it was, also where a part of it has a backslash */
-    if (!has_root || length > sizeof op->file->path)
+    if (!has_root || length > KZ_PATH)
         op->is_misnamed = true;
     else if (are_attached(op))
         take(op, instance, said + 1);

@@ -135,7 +135,7 @@ static void check_swap(KzOp *op, bool has_post)
 static void check_target(KzOp *op)
 {
     const FILE_RENAME_INFORMATION *said = op->iopb->Parameters.SetFileInformation.InfoBuffer;
-    char now[600], opened[600];
+    char now[KZ_WHOLE_PATH], opened[KZ_WHOLE_PATH];
     if (!op->opaque->target || op->opaque->is_misled || !kz_name_in_target(op->opaque->target, opened, sizeof opened))
         return;
     bool is_same = kz_destination(op->file, said->RootDirectory, said->FileName, said->FileNameLength, now, sizeof now) && strcmp(now, opened) == 0;

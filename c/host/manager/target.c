@@ -46,11 +46,11 @@ static KzAnswer begin(void *given, KazdrinEvent asked, const char *path)
     Opening *opening = given;
     PFLT_VOLUME volume = kz.volumes[asked.volume];
     const char *slash = strrchr(path, '/');
-    char above[256];
+    char above[KZ_PATH];
     const KzCreate create = {.access = (opening->renamed->is_directory ? FILE_ADD_SUBDIRECTORY : FILE_ADD_FILE) | SYNCHRONIZE,
                              .options = FILE_OPEN << 24 | FILE_OPEN_FOR_BACKUP_INTENT,
                              .share = FILE_SHARE_READ | FILE_SHARE_WRITE,
-                             .target = kz_kept_text(path)};
+                             .is_target = true};
     const KzOwn own = {.initiator = opening->initiator, .is_waited_for = true, .create = &create};
     snprintf(above, sizeof above, "%.*s", slash ? (int)(slash - path) : 0, path);
     if (volume != opening->renamed->volume)
@@ -73,8 +73,8 @@ static NTSTATUS open_folder(Opening *opening, const char *text)
 {
     PFLT_VOLUME volume = opening->renamed->volume;
     const KazdrinEvent event = {.event = KZE_CREATE, .volume = volume->id};
-    char above[600];
-    memcpy(above, text, sizeof above);
+    char above[KZ_WHOLE_PATH];
+    strcpy(above, text);
     char *slash = strrchr(above, '/');
     *(slash ? slash : above) = '\0';
     if (volume->makes_folders && !is_folder(volume, above))
@@ -85,7 +85,7 @@ static NTSTATUS open_folder(Opening *opening, const char *text)
 NTSTATUS kz_put_target(PFLT_INSTANCE initiator, KzFile *file, const KzAsked **asked, KzAsked *with)
 {
     Opening opening = {initiator, file, NULL};
-    char text[600];
+    char text[KZ_WHOLE_PATH];
     if (!file || !*asked || !leads_to(file, *asked, text, sizeof text))
         return STATUS_SUCCESS;
     NTSTATUS status = open_folder(&opening, text);

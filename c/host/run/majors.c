@@ -161,7 +161,7 @@ static KzReply ask_dispose(char **words)
 /* ---- `rename H NAME WORD..` and `link H NAME WORD..`: replace, posix, ex, in D. A NAME that begins with / is one from the volume's root, else it is in the file's own directory. */
 typedef struct {
     FILE_RENAME_INFORMATION info;
-    WCHAR rest[400];
+    WCHAR rest[KZ_WHOLE_PATH];
 } Renaming;
 
 static bool read_flags(char **words, Renaming *asked, ULONG *flags, bool *is_extended)
@@ -185,11 +185,11 @@ static bool read_flags(char **words, Renaming *asked, ULONG *flags, bool *is_ext
 static KzReply set_name(char **words, ULONG class, ULONG extended)
 {
     Renaming asked = {0};
-    char text[360];
+    char text[KZ_WHOLE_PATH];
     bool is_extended = false;
     ULONG flags = 0;
     uint64_t handle;
-    if (!kz_read_handle(words[1], &handle) || strlen(words[2]) > 255 || !read_flags(words + 3, &asked, &flags, &is_extended))
+    if (!kz_read_handle(words[1], &handle) || strlen(words[2]) >= KZ_PATH || !read_flags(words + 3, &asked, &flags, &is_extended))
         return kz_wrong();
     const KzFile *file = kz_file_of(handle);
     bool is_whole = *words[2] == '/' && !asked.info.RootDirectory;

@@ -162,7 +162,7 @@ NTSTATUS kz_open_as(const char *name, const KzCreate *create, KzFile **file)
         return open_at(volume, "", &itself, file);
     }
     volume = split(name, &path);
-    if (!volume || strlen(path) > 255)
+    if (!volume || strlen(path) >= KZ_PATH)
         return volume ? STATUS_OBJECT_NAME_INVALID : STATUS_OBJECT_PATH_NOT_FOUND;
     return open_at(volume, path, create, file);
 }

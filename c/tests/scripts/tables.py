@@ -62,6 +62,7 @@ def names(path):
         folder = f"r{number}"
         mode, name, status, *then = shlex.split(line.replace("\\", "\\\\")) if "\\" in line else shlex.split(line)
         name = re.sub(r"\\x([0-9a-f]{2})", lambda found: chr(int(found.group(1), 16)), name)
+        name = re.sub(r"\{(.)\*([0-9]+)\}", lambda found: found.group(1) * int(found.group(2)), name)
         setup = [f"create 0 new {folder}/f as z", "write z 0 01", "close z", f"create 0 new {folder}/f:s as z", "write z 0 02", "close z", f"mkdir 0 {folder}/d as z", "close z"]
         setup += [f"create 0 new {folder}/d/f as z", "write z 0 03", "close z", f"create 0 new {folder}/d:t as z", "write z 0 04", "close z"]
         word = f"{mode} 0" if mode in ("mkdir", "opendir") else f"create 0 {mode}"

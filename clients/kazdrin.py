@@ -32,7 +32,7 @@ from collections.abc import Sequence
 from types import TracebackType
 from typing import NamedTuple
 
-CREATE, READ, WRITE, QUERY_SIZE, SET_SIZE, FLUSH, LIST, SET_DELETE, CLOSE, RESTORE = range(1, 11)
+CREATE, READ, WRITE, QUERY_SIZE, SET_SIZE, FLUSH, LIST, SET_DELETE, CLOSE, RESTORE, RENAME = range(1, 12)
 LOAD, ATTACH, DETACH, UNLOAD, DISMOUNT, STOP = range(16, 22)
 REPLY, HELD_REPLY = 128, 129
 EXISTING, NEW, ALWAYS = range(3)
@@ -253,6 +253,10 @@ class Client:
     def restore(self, handle: int) -> Reply:
         """Takes that mark back."""
         return self.ask(RESTORE, pack("Q", handle))
+
+    def rename(self, handle: int, path: str | bytes, replace: bool = True) -> Reply:
+        """Gives the file another name; what has that is replaced, unless that is refused."""
+        return self.ask(RENAME, pack("QB", handle, replace) + text(path))
 
     def close(self, handle: int) -> Reply:
         """Closes a handle."""

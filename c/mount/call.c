@@ -96,7 +96,7 @@ int call_ask(Call *call, Request request, Reply *reply)
 static int errno_of_reply(const Call *call, const Request *request, uint8_t status)
 {
     uint8_t code = request->code;
-    bool has_need = code == FRAME_CREATE || code == FRAME_WRITE || code == FRAME_SET_SIZE || code == FRAME_FLUSH;
+    bool has_need = code == FRAME_CREATE || code == FRAME_WRITE || code == FRAME_SET_SIZE || code == FRAME_FLUSH || code == FRAME_RENAME;
     bool is_full = status == KZS_DEVICE_FAULT && has_need && below_is_full(call->mount, request->length);
     return is_full ? ENOSPC : errno_of(status);
 }
@@ -158,6 +158,17 @@ int call_measure_and_close(Call *call, uint64_t *size)
     if (error == 0)
         error = call_receive(call, &closed);
     return error != 0 ? error : errno_of(status);
+}
+
+bool call_is_known(Mount *mount, Request request)
+{
+    Reply reply;
+    Call call = call_on(mount, NULL);
+    int error = call_take(&call, (Want){0});
+    if (error == 0)
+        error = call_ask(&call, request, &reply);
+    call_end(&call);
+    return error == 0 && reply.status != KZS_BAD_REQUEST;
 }
 
 void call_leave(Call *call)

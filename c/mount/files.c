@@ -70,10 +70,12 @@ void file_leave(File *file)
         pool_send(&file->mount->pool, file->home, &file->errand);
 }
 
-/* Opens it once more on the call's line. What it does then may be held: so it doesn't stay in the gate. */
-static int open_again(Call *call, const char *path, uint64_t *handle)
+/* Opens it once more on the call's line, by the name that it has. What it does then may be held: so it doesn't stay in the gate. */
+static int open_again(Call *call, Node *node, const char *path, uint64_t *handle)
 {
     int error = call_open(call, path, CREATE_EXISTING);
+    if (error == 0 && !nodes_is(&call->mount->nodes, node, path))
+        error = ENOENT;
     if (!call->is_abandoned)
         call_leave(call);
     *handle = call->handle;
@@ -101,11 +103,11 @@ int file_reach(Call *call, File *file, Matter matter, uint64_t *handle)
     if (error == 0)
         error = take(call, file, is_at_home_alone(call, &look), matter != BYTES);
     if (error == 0 && call->line != file->home)
-        error = open_again(call, look.path, handle);
+        error = open_again(call, file->node, look.path, handle);
     else
         *handle = file->handle;
     if (error == ENOENT) {
-        /* it was deleted meanwhile: the handle that there is has it still */
+        /* it was deleted or renamed meanwhile: the handle that there is has it still */
         call_end(call);
         *handle = file->handle;
         error = take(call, file, true, false);

@@ -106,8 +106,10 @@ static int size_of(Call *call, fuse_ino_t number, const Look *look, const struct
 {
     if (info)
         return size_by_file(call, (File *)(uintptr_t)info->fh, wanted, size);
-    if (!look->is_deleted)
-        return size_by_path(call, look->path, wanted, size);
+    if (!look->is_deleted) {
+        int error = size_by_path(call, look->path, wanted, size);
+        return error == ENOENT && !nodes_is(&call->mount->nodes, node_at(number), look->path) ? ESTALE : error; /* it was renamed meanwhile */
+    }
     File *file = file_lend(call->mount, node_at(number));
     if (!file)
         return ESTALE;
@@ -205,6 +207,18 @@ void name_set_attributes(fuse_req_t request, fuse_ino_t number, struct stat *wan
     answer(request, number, info, which & FUSE_SET_ATTR_SIZE ? &size : NULL);
 }
 
+int open_inside(Call *call, const char *path)
+{
+    Reply reply;
+    int error = call_ask(call, request_create((uint8_t)call->mount->options.volume, CREATE_EXISTING, path), &reply);
+    error = error != 0 ? error : errno_of_look(reply.status);
+    if (error == 0) {
+        call->has_handle = true;
+        call->handle = reply.information;
+    }
+    return error;
+}
+
 /* From the mark on the name is hidden here, if the file is open, and else not there: the close below deletes it, or the last one of the open files does. */
 int delete_path(Call *call, const char *path, const char *moved_to)
 {
@@ -212,13 +226,9 @@ int delete_path(Call *call, const char *path, const char *moved_to)
     Nodes *nodes = &call->mount->nodes;
     int error = nodes_is_hidden(nodes, path) ? ENOENT : 0;
     if (error == 0)
-        error = call_ask(call, request_create((uint8_t)call->mount->options.volume, CREATE_EXISTING, path), &reply);
-    if (error == 0)
-        error = errno_of_look(reply.status);
+        error = open_inside(call, path);
     if (error != 0)
         return error;
-    call->has_handle = true;
-    call->handle = reply.information;
     error = call_do(call, request_handle(FRAME_SET_DELETE, call->handle), &reply);
     if (error != 0)
         return error;

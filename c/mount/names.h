@@ -14,6 +14,8 @@ void name_unlink(fuse_req_t request, fuse_ino_t folder, const char *name);
 int unlink_file(fuse_req_t request, const char *path);
 /* Deletes a path on the call's line, alone in its gate: 0 or an errno. Where it was copied before, its node has the other name from then on. */
 int delete_path(Call *call, const char *path, const char *moved_to);
+/* Opens what is there, on a call's line that is alone in its gate: 0 or an errno. */
+int open_inside(Call *call, const char *path);
 /* The path of a name in a folder: 0 or an errno. */
 int path_of(Mount *mount, fuse_ino_t folder, const char *name, char path[LONGEST_PATH + 1]);
 /* Takes a line, which is to be a home or not, and opens what is there: 0 or an errno. */

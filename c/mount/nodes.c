@@ -152,10 +152,15 @@ bool nodes_is(Nodes *nodes, Node *node, const char *path)
     return is_so;
 }
 
+static bool is_waited_for(const Node *node)
+{
+    return node->is_deleted && !node->is_replaced && node->files;
+}
+
 static bool is_hidden(Nodes *nodes, const char *path)
 {
     Node *node = *chain_of(nodes, path);
-    while (node && !(node->is_deleted && node->files && strcmp(node->path, path) == 0))
+    while (node && !(is_waited_for(node) && strcmp(node->path, path) == 0))
         node = node->next;
     return node != NULL;
 }
@@ -171,7 +176,7 @@ bool nodes_is_hidden(Nodes *nodes, const char *path)
 static void put_hidden(FILE *text, const Node *node)
 {
     for (; node; node = node->next)
-        if (node->is_deleted && node->files)
+        if (is_waited_for(node))
             fprintf(text, "%s\n", node->path);
 }
 
@@ -224,21 +229,36 @@ bool nodes_is_open(Nodes *nodes, const char *path)
     return is_open;
 }
 
-static bool is_open_in(const Node *node, const char *folder, size_t length)
+static bool has_files(const Node *node)
 {
-    while (node && !(node->files && strncmp(node->path, folder, length) == 0 && node->path[length] == '/'))
+    return node->files != NULL;
+}
+
+static bool is_one_in(const Node *node, const char *folder, size_t length, bool (*is_one)(const Node *node))
+{
+    while (node && !(is_one(node) && strncmp(node->path, folder, length) == 0 && node->path[length] == '/'))
         node = node->next;
     return node != NULL;
 }
 
-bool nodes_is_open_in(Nodes *nodes, const char *folder)
+static bool is_any_in(Nodes *nodes, const char *folder, bool (*is_one)(const Node *node))
 {
     bool is_so = false;
     lock(nodes);
     for (unsigned at = 0; at < CHAINS && !is_so; at++)
-        is_so = is_open_in(nodes->chains[at], folder, strlen(folder));
+        is_so = is_one_in(nodes->chains[at], folder, strlen(folder), is_one);
     unlock(nodes);
     return is_so;
+}
+
+bool nodes_is_open_in(Nodes *nodes, const char *folder)
+{
+    return is_any_in(nodes, folder, has_files);
+}
+
+bool nodes_is_hidden_in(Nodes *nodes, const char *folder)
+{
+    return is_any_in(nodes, folder, is_waited_for);
 }
 
 static void renew(Node *node)
@@ -261,8 +281,10 @@ void nodes_rename(Nodes *nodes, const char *path, const char *to)
     char *copy = strdup(to);
     lock(nodes);
     Node *node = find(nodes, path, false), *replaced = find(nodes, to, false);
-    if (replaced)
+    if (replaced) {
+        replaced->is_replaced = true;
         mark_deleted(nodes, replaced);
+    }
     count_deletion(nodes, path);
     if (node && copy)
         move(nodes, node, copy);

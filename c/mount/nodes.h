@@ -19,6 +19,7 @@ typedef struct Node {
     unsigned holds;   /* open files, and calls that look at it */
     Kind kind;
     bool is_deleted;
+    bool is_replaced; /* another file has its name: that isn't hidden */
     bool has_times, has_mode, has_owner; /* as long as the mount: it isn't forgotten with the last look-up */
     struct timespec changed, read;
     struct timespec renewed; /* its bytes, or what is told of it: that is no time that a program may give */
@@ -62,8 +63,12 @@ Look nodes_look(Nodes *nodes, Node *node);
 bool nodes_is(Nodes *nodes, Node *node, const char *path);
 /* A deleted file of that name is still open: the server refuses the name, and says no more of it. */
 bool nodes_is_hidden(Nodes *nodes, const char *path);
+/* Whether such a file lies in the folder, or in one below it. */
+bool nodes_is_hidden_in(Nodes *nodes, const char *folder);
 /* All such names, a line's end before and behind each; NULL: no memory. */
 char *nodes_hidden(Nodes *nodes);
+/* So long who wants such a name waits until the last close was answered. */
+#define HIDDEN_MILLISECONDS 1000
 /* Waits until it isn't, so long at most. */
 bool nodes_wait_hidden(Nodes *nodes, const char *path, long milliseconds);
 /* The name was deleted. Whether the file is still open. */

@@ -8,9 +8,6 @@
 #include <errno.h>
 #include <fcntl.h>
 
-/* So long a create waits until the last close of a deleted file of that name was answered. */
-#define PATIENCE_MILLISECONDS 1000
-
 /* The call's handle becomes the kernel's open file. */
 static int keep(Call *call, Node *node, struct fuse_file_info *info)
 {
@@ -58,7 +55,7 @@ void data_open(fuse_req_t request, fuse_ino_t number, struct fuse_file_info *inf
 /* Makes the file, or opens it where it is there already, and measures it. While a deleted file of that name is still open (hidden), the server refuses the name: EBUSY. */
 static int create(Call *call, const char *path, struct fuse_file_info *info, uint64_t *size)
 {
-    if (nodes_wait_hidden(&call->mount->nodes, path, PATIENCE_MILLISECONDS))
+    if (nodes_wait_hidden(&call->mount->nodes, path, HIDDEN_MILLISECONDS))
         return EBUSY;
     int error = call_take_name(call, (Want){0}, path, BESIDE_CREATES);
     if (error == 0)

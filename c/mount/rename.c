@@ -1,16 +1,15 @@
-/* Renames by a copy, which are asked for by -o copyrename or -o below: so a filter that denies a deletion or a create isn't got round. A file that is open keeps its name: EBUSY, so that nobody deletes and copies instead. What is there under the new name is overwritten; a crash between leaves both.
- * Nobody interrupts it, for then too little would have been copied. */
+/* Renames: one request of a server that knows it, so that at each moment the new name has the old file or the new one, whole. Of another by a copy, which is asked for by -o copyrename or
+ * -o below: there a file that is open keeps its name, EBUSY, so that nobody deletes and copies instead. */
 #include "rename.h"
 
 #include "below.h"
+#include "copy.h"
 #include "link.h"
 #include "names.h"
 #include "path.h"
 #include "tree.h"
-#include "error.h"
 
 #include <errno.h>
-#include <stdlib.h>
 #include <string.h>
 #include <unistd.h>
 
@@ -18,6 +17,8 @@
 #define LOOKS 20
 #define SHORTEST_PAUSE 50
 #define LONGEST_PAUSE 20000
+/* So often a server is asked that has the file in use, each time after the longest pause. */
+#define TRIALS 6
 
 bool stays_open(Nodes *nodes, const char *path, bool (*is_open)(Nodes *nodes, const char *path))
 {
@@ -29,82 +30,35 @@ bool stays_open(Nodes *nodes, const char *path, bool (*is_open)(Nodes *nodes, co
     return is_so;
 }
 
-/* One piece: how many bytes, 0 at the end, or an errno below 0. */
-static int copy_piece(Call *call, uint64_t from, uint64_t to, uint64_t offset)
+/* A server may want the file for itself: it is asked again for a while. */
+static int ask_patiently(Call *call, Request request)
 {
-    uint8_t piece[LONGEST_TRANSFER];
-    Reply reply;
-    int error = call_ask(call, request_read(from, offset, sizeof piece), &reply);
-    if (error != 0)
-        return -error;
-    if (reply.status == KZS_END_OF_FILE || (reply.status == KZS_OK && reply.length == 0))
-        return 0;
-    if (reply.status != KZS_OK || reply.length > sizeof piece)
-        return -(reply.status != KZS_OK ? errno_of(reply.status) : EPROTO);
-    size_t length = reply.length;
-    memcpy(piece, reply.bytes, length);
-    error = call_do(call, request_write(to, offset, piece, length), &reply);
-    if (error != 0)
-        return -error;
-    return reply.information == length ? (int)length : -EIO;
-}
-
-/* It is cut behind the copy: both may be one file that has two names, which nobody here can see without the folder below. */
-static int copy_bytes(Call *call, uint64_t from, uint64_t to)
-{
-    Reply reply;
-    uint64_t offset = 0;
-    int count = 0, error = 0;
-    while ((count = copy_piece(call, from, to, offset)) > 0)
-        offset += (uint64_t)count;
-    if (count == 0)
-        error = call_do(call, request_set_size(to, offset), &reply);
-    if (error == 0 && count == 0)
-        error = call_do(call, request_handle(FRAME_FLUSH, to), &reply);
-    return error != 0 ? error : -count;
-}
-
-/* What is there under the new name is lost as soon as the copy begins: so there has to be room for all of it before. */
-static int ask_for_room(Call *call)
-{
-    Reply reply;
-    int error = call_do(call, request_handle(FRAME_QUERY_SIZE, call->handle), &reply);
-    return error == 0 && below_is_full(call->mount, reply.information) ? ENOSPC : error;
-}
-
-/* The file that is copied is the line's. */
-static int open_source(Call *call, const char *path)
-{
-    Reply reply;
-    int error = call_ask(call, request_create((uint8_t)call->mount->options.volume, CREATE_EXISTING, path), &reply);
-    error = error != 0 ? error : errno_of_look(reply.status);
-    if (error == 0) {
-        call->has_handle = true;
-        call->handle = reply.information;
+    Reply reply = {0};
+    int error = call_do(call, request, &reply);
+    for (unsigned trial = 1; reply.status == KZS_BUSY && trial < TRIALS; trial++) {
+        usleep(LONGEST_PAUSE);
+        error = call_do(call, request, &reply);
     }
-    return error != 0 ? error : ask_for_room(call);
+    bool is_in_the_way = reply.status == KZS_ACCESS_DENIED && nodes_is_open(&call->mount->nodes, (const char *)request.bytes);
+    return is_in_the_way ? EBUSY : error;
 }
 
-/* Both handles are the line's. */
-static int copy(Call *call, const char *path, const char *to, bool is_new)
+/* Open files go along, and those of what is replaced keep what they have. */
+static int move_file(Call *call, const char *path, const char *to, bool is_new)
 {
-    Reply reply;
-    uint8_t volume = (uint8_t)call->mount->options.volume;
-    int error = open_source(call, path);
+    int error = open_inside(call, path);
     if (error == 0)
-        error = call_do(call, request_create(volume, is_new ? CREATE_NEW : CREATE_ALWAYS, to), &reply);
-    if (error != 0)
-        return error;
-    uint64_t copied = reply.information;
-    below_copy_mode(call->mount, path, to);
-    error = copy_bytes(call, call->handle, copied);
-    bool is_lost = !call->has_handle;
-    call->has_handle = false;
-    if (!is_lost)
-        call_ask(call, request_handle(FRAME_CLOSE, copied), &reply);
-    if (!is_lost)
-        call_ask(call, request_handle(FRAME_CLOSE, call->handle), &reply);
+        error = ask_patiently(call, request_rename(call->handle, !is_new, to));
+    if (error == 0)
+        nodes_rename(&call->mount->nodes, path, to);
     return error;
+}
+
+static int copy_and_delete(Call *call, const char *path, const char *to, bool is_new)
+{
+    Nodes *nodes = &call->mount->nodes;
+    int error = nodes_is_open(nodes, path) || nodes_is_open(nodes, to) ? EBUSY : copy_file(call, path, to, is_new);
+    return error != 0 ? error : delete_path(call, path, to);
 }
 
 /* Alone at both gates, which are entered in the order of their numbers. */
@@ -118,12 +72,10 @@ static int rename_path(Call *call, const char *path, const char *to, bool is_new
         error = call_enter(call, first, ALONE);
     if (error == 0 && gate_of(first) != gate_of(second))
         error = call_enter(&other, second, ALONE);
-    if (error == 0 && (nodes_is_open(&mount->nodes, path) || nodes_is_open(&mount->nodes, to) || nodes_is_hidden(&mount->nodes, to)))
+    if (error == 0 && nodes_is_hidden(&mount->nodes, to))
         error = EBUSY;
     if (error == 0)
-        error = copy(call, path, to, is_new);
-    if (error == 0)
-        error = delete_path(call, path, to);
+        error = (mount->knows_rename ? move_file : copy_and_delete)(call, path, to, is_new);
     call_leave(&other);
     return error;
 }
@@ -144,7 +96,27 @@ static int wait_before(fuse_req_t request, const char *path, const char *to)
     return error != 0 ? error : call_wait(&call, to, NAMES, ALONE);
 }
 
-/* The file is copied once nobody has it open, and nobody waits for it. */
+/* One that is to be copied is closed before, and so is what is in the way. */
+static bool stays_in_use(Mount *mount, const char *path, const char *to)
+{
+    return !mount->knows_rename && (stays_open(&mount->nodes, path, nodes_is_open) || stays_open(&mount->nodes, to, nodes_is_open));
+}
+
+/* What is in the way of a server may be on its way to its last close. */
+static int rename_again(Mount *mount, const char *path, const char *to, bool is_new)
+{
+    int error = rename_file(mount, path, to, is_new);
+    return error == EBUSY && !stays_open(&mount->nodes, to, nodes_is_open) ? rename_file(mount, path, to, is_new) : error;
+}
+
+/* Onto a link: what a server refuses there is done in two steps. */
+static int rename_onto_link(Mount *mount, const char *path, const char *to)
+{
+    int error = mount->knows_rename ? rename_file(mount, path, to, false) : EIO;
+    return error == EIO || error == EACCES || error == EEXIST ? link_replace(mount, path, to) : error;
+}
+
+/* Once nobody waits for one of both. */
 static int rename_alone(fuse_req_t request, Mount *mount, const char *path, const char *to, bool is_new)
 {
     Kind kind = below_kind(mount, to);
@@ -152,12 +124,12 @@ static int rename_alone(fuse_req_t request, Mount *mount, const char *path, cons
         return EISDIR;
     if (kind == A_LINK && is_new)
         return EEXIST;
-    if (stays_open(&mount->nodes, path, nodes_is_open) || stays_open(&mount->nodes, to, nodes_is_open))
+    if (stays_in_use(mount, path, to) || nodes_wait_hidden(&mount->nodes, to, HIDDEN_MILLISECONDS))
         return EBUSY;
     int error = wait_before(request, path, to);
     if (error != 0 || strcmp(path, to) == 0 || below_is_same(mount, path, to))
         return error;
-    return kind == A_LINK ? link_replace(mount, path, to) : rename_file(mount, path, to, is_new);
+    return kind == A_LINK ? rename_onto_link(mount, path, to) : rename_again(mount, path, to, is_new);
 }
 
 static int rename_any(fuse_req_t request, Mount *mount, const char *path, const char *to, bool is_new)
@@ -180,7 +152,7 @@ void name_rename(fuse_req_t request, fuse_ino_t folder, const char *name, fuse_i
     int error = path_of(mount, folder, name, path);
     if (error == 0)
         error = path_of(mount, to_folder, to, to_path);
-    if (error == 0 && !mount->options.has_copyrename && mount->below == -1)
+    if (error == 0 && !mount->knows_rename && !mount->options.has_copyrename && mount->below == -1)
         error = EXDEV;
     if (error == 0 && flags > 1)
         error = EINVAL;

@@ -166,7 +166,7 @@ int tree_rename(Mount *mount, const char *path, const char *to, bool is_new)
         return EINVAL;
     if (path_is_in(mount->options.folders, path) || path_is_in(mount->options.folders, to))
         return EXDEV;
-    if (stays_open(&mount->nodes, path, nodes_is_open_in))
+    if (stays_open(&mount->nodes, path, mount->knows_rename ? nodes_is_hidden_in : nodes_is_open_in))
         return EBUSY;
     int error = each(mount, path, to, 0, can_move);
     if (error == 0)

@@ -6,8 +6,8 @@
 
 void tree_make_folder(fuse_req_t request, fuse_ino_t folder, const char *name, mode_t mode);
 void tree_remove_folder(fuse_req_t request, fuse_ino_t folder, const char *name);
-/* Gives a folder another name, with all that lies in it. Each file is copied through the filters, and deleted under its old name: 0 or an errno, and then a part of it has its new name. Nothing
- * is done where a file in it is open, EBUSY, or where something in it is neither a file nor a folder, EXDEV. */
+/* Gives a folder another name, with all that lies in it. Each file is renamed through the filters: 0 or an errno, and then a part of it has its new name. Nothing
+ * is done where a deleted file in it is open, or any that would have to be copied, EBUSY, or where something in it is neither a file nor a folder, EXDEV. */
 int tree_rename(Mount *mount, const char *path, const char *to, bool is_new);
 
 #endif

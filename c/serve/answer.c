@@ -7,6 +7,8 @@
 #include "core/memory.h"
 #include "core/spell.h"
 #include "core/state.h"
+#include "filesystem/fileobject.h"
+#include "lib/letters.h"
 #include "manager/disposition.h"
 #include "manager/filter.h"
 #include "manager/instance.h"
@@ -121,6 +123,25 @@ static void create(Link *link, const Frame *frame)
     kz_perform_create(frame->volume, path, &asked);
 }
 
+/* To the name from the volume's root, as MoveFileEx has it: what has that name goes, also while it is open. */
+static void rename_file(const Frame *frame)
+{
+    struct {
+        FILE_RENAME_INFORMATION head;
+        WCHAR rest[2 * LONGEST_PATH];
+    } said = {.head.Flags = FILE_RENAME_POSIX_SEMANTICS | (frame->mode ? FILE_RENAME_REPLACE_IF_EXISTS : 0)};
+    char text[LONGEST_PATH + 1] = "", path[5 * LONGEST_PATH + 1], whole[sizeof path + 60];
+    memcpy(text, frame->text, frame->text_length);
+    kz_unspell_outside(path, sizeof path, text);
+    snprintf(whole, sizeof whole, "/Device/%s/%s", kz_file_of(frame->handle)->volume->name, path);
+    said.head.FileNameLength = kz_widen(said.head.FileName, whole);
+    kz_ask_file(frame->handle, &(KzAsked){.major = IRP_MJ_SET_INFORMATION,
+                                          .code = FileRenameInformationEx,
+                                          .input = &said,
+                                          .input_size = sizeof said.head + said.head.FileNameLength,
+                                          .irp_flags = IRP_BUFFERED_IO});
+}
+
 static void close_handle(Link *link)
 {
     asking = link;
@@ -163,6 +184,9 @@ static void operate(Link *link, const Frame *frame)
         create(link, frame);
     } else if (frame->code == FRAME_CLOSE) {
         close_handle(link);
+    } else if (frame->code == FRAME_RENAME) {
+        asking = link;
+        rename_file(frame);
     } else if (frame->code == FRAME_SET_DELETE || frame->code == FRAME_RESTORE) {
         asking = link;
         kz_dispose_file(frame->handle, frame->code == FRAME_SET_DELETE);

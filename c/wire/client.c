@@ -39,6 +39,11 @@ Request request_set_size(uint64_t handle, uint64_t size)
     return spelled((Frame){.code = FRAME_SET_SIZE, .handle = handle, .offset = size});
 }
 
+Request request_rename(uint64_t handle, bool is_replacing, const char *path)
+{
+    return spelled((Frame){.code = FRAME_RENAME, .handle = handle, .mode = is_replacing, .text = (const uint8_t *)path, .text_length = strlen(path)});
+}
+
 Request request_list(uint8_t volume)
 {
     return spelled((Frame){.code = FRAME_LIST, .volume = volume});

@@ -26,6 +26,8 @@ Request request_create(uint8_t volume, uint8_t mode, const char *path);
 Request request_read(uint64_t handle, uint64_t offset, uint32_t length);
 Request request_write(uint64_t handle, uint64_t offset, const void *bytes, size_t length);
 Request request_set_size(uint64_t handle, uint64_t size);
+/* The handle's file gets that name; what has it is replaced, if that is asked for. */
+Request request_rename(uint64_t handle, bool is_replacing, const char *path);
 Request request_list(uint8_t volume);
 /* QuerySize, Flush, SetDelete, Close or Restore, by its code */
 Request request_handle(uint8_t code, uint64_t handle);

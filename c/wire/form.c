@@ -13,6 +13,7 @@ static const char *const forms[] = {
     [FRAME_SET_DELETE] = "h8",
     [FRAME_CLOSE] = "h8",
     [FRAME_RESTORE] = "h8",
+    [FRAME_RENAME] = "h8r1p-",
     [FRAME_LOAD] = "n-",
     [FRAME_ATTACH] = "f1v1c1n-a-",
     [FRAME_DETACH] = "i2",
@@ -30,7 +31,8 @@ void field_set(Frame *frame, char letter, uint64_t number)
 {
     switch (letter) {
     case 'v': frame->volume = (uint8_t)number; break;
-    case 'm': frame->mode = (uint8_t)number; break;
+    case 'm':
+    case 'r': frame->mode = (uint8_t)number; break;
     case 'f': frame->filter = (uint8_t)number; break;
     case 'i': frame->instance = (uint16_t)number; break;
     case 'l': frame->length = (uint32_t)number; break;
@@ -44,7 +46,8 @@ uint64_t field_at(const Frame *frame, char letter)
 {
     switch (letter) {
     case 'v': return frame->volume;
-    case 'm': return frame->mode;
+    case 'm':
+    case 'r': return frame->mode;
     case 'f': return frame->filter;
     case 'i': return frame->instance;
     case 'l': return frame->length;

@@ -19,6 +19,7 @@ enum {
     FRAME_SET_DELETE = 8,
     FRAME_CLOSE = 9,
     FRAME_RESTORE = 10,
+    FRAME_RENAME = 11,
     FRAME_LOAD = 16,
     FRAME_ATTACH = 17,
     FRAME_DETACH = 18,
@@ -43,7 +44,7 @@ enum { CREATE_EXISTING, CREATE_NEW, CREATE_ALWAYS };
 
 /* A request. Its texts and bytes lie in the frame, or are the caller's. */
 typedef struct {
-    uint8_t code, volume, mode, filter;
+    uint8_t code, volume, mode, filter; /* whether a Rename replaces is its mode */
     uint16_t instance;
     uint32_t number, length;
     uint64_t handle, offset; /* the size of a SetSize is its offset */

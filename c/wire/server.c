@@ -96,7 +96,8 @@ static uint8_t refusal(const Frame *frame)
 {
     switch (frame->code) {
     case FRAME_CREATE:
-        if (frame->mode > CREATE_ALWAYS)
+    case FRAME_RENAME:
+        if (frame->mode > (frame->code == FRAME_CREATE ? CREATE_ALWAYS : 1))
             return KZS_BAD_REQUEST;
         return is_path(frame->text, frame->text_length) ? KZS_OK : KZS_BAD_PATH;
     case FRAME_READ:

@@ -5,8 +5,14 @@
 #include "filesystem/folder.h"
 #include "filesystem/name.h"
 
+#include <unistd.h>
+
+/* Descriptors that are left for connections and for calls. */
+enum { LEFT = 64 };
+
 static struct {
     KzFolder folder;
+    long orphans;
 } disk = {.folder = {-1}};
 
 int kz_use_folder(const char *path)
@@ -48,9 +54,29 @@ void kz_enter_folder(PFLT_VOLUME volume, const char *name)
         kz_folder_entries(&disk.folder, name, enter, &entered);
 }
 
-NTSTATUS kz_rename_in_folder(uint8_t volume, const char *from, const char *to, bool is_link)
+NTSTATUS kz_rename_in_folder(uint8_t volume, const char *from, const char *to, bool is_link, bool replaces)
 {
-    return kz_is_in_folder(volume) ? kz_ntstatus(kz_folder_rename(&disk.folder, from, to, is_link).status) : STATUS_SUCCESS;
+    return kz_is_in_folder(volume) ? kz_ntstatus(kz_folder_rename(&disk.folder, from, to, is_link, replaces).status) : STATUS_SUCCESS;
+}
+
+bool kz_hold_in_folder(const KzName *name)
+{
+    if (!kz_is_in_folder(name->volume->id))
+        return true;
+    if (disk.orphans + LEFT >= sysconf(_SC_OPEN_MAX))
+        return false;
+    name->stream->orphan = kz_folder_hold(&disk.folder, name->text) + 1;
+    disk.orphans += name->stream->orphan != 0;
+    return name->stream->orphan;
+}
+
+void kz_forget_orphan(KzStream *stream)
+{
+    if (!stream->orphan)
+        return;
+    close(stream->orphan - 1);
+    stream->orphan = 0;
+    disk.orphans--;
 }
 
 NTSTATUS kz_make_in_folder(uint8_t volume, const char *name)
@@ -66,5 +92,7 @@ uint8_t kz_unlink_in_folder(uint8_t volume, const char *name)
 /* ---- Calls. Below the folder a file is what its name leads to now. */
 KzFolderAnswer kz_call_in_folder(const KzFile *file, const KazdrinData *call, const uint8_t *bytes)
 {
-    return kz_call_folder(&disk.folder, call, file->name ? file->name->text : "", bytes);
+    KzFolder folder = disk.folder;
+    folder.orphan = file->name ? file->name->stream->orphan : 0;
+    return kz_call_folder(&folder, call, file->name ? file->name->text : "", bytes);
 }

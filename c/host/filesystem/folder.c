@@ -12,6 +12,7 @@
 #include <errno.h>
 #include <fcntl.h>
 #include <linux/openat2.h>
+#include <stdio.h>
 #include <string.h>
 #include <sys/stat.h>
 #include <sys/syscall.h>
@@ -51,9 +52,20 @@ static int open_below(const KzFolder *folder, const char *path, int flags)
     return (int)syscall(SYS_openat2, folder->descriptor, spelt, &how, sizeof how);
 }
 
+/* A file that has no name any more is opened by what was kept of it. */
+static int open_orphan(const KzFolder *folder, struct stat *found)
+{
+    int file = fcntl(folder->orphan - 1, F_DUPFD_CLOEXEC, 0);
+    if (file != -1)
+        fstat(file, found);
+    return file;
+}
+
 /* Looks what is there before it is opened: to open a pipe or a device may wait. -1 and errno: it can't be had. */
 static int open_regular(const KzFolder *folder, const char *path, int flags, struct stat *found)
 {
+    if (folder->orphan)
+        return open_orphan(folder, found);
     int file = open_below(folder, path, O_PATH);
     if (file == -1)
         return -1;
@@ -193,7 +205,7 @@ static KzFolderAnswer flush(const KzFolder *folder, const char *path)
 {
     struct stat found;
     int file = open_regular(folder, path, O_RDONLY, &found);
-    return done(file, file != -1 && fsync(file) == 0 && sync_above(folder, path));
+    return done(file, file != -1 && fsync(file) == 0 && (folder->orphan || sync_above(folder, path)));
 }
 
 /* A link is taken away, and not what it leads to. */
@@ -252,19 +264,31 @@ static const char *last_of(const char *path, Spelt *room)
     return room->text;
 }
 
+static bool rename_over(int from, const char *old, int to, const char *fresh, bool replaces)
+{
+    return renameat2(from, old, to, fresh, replaces ? 0 : RENAME_NOREPLACE) == 0;
+}
+
 static bool link_over(int from, const char *old, int to, const char *fresh)
 {
     unlinkat(to, fresh, 0);
     return linkat(from, old, to, fresh, 0) == 0;
 }
 
-KzFolderAnswer kz_folder_rename(const KzFolder *folder, const char *from, const char *to, bool is_link)
+int kz_folder_hold(const KzFolder *folder, const char *path)
+{
+    struct stat found;
+    int file = open_regular(folder, path, O_RDWR, &found);
+    return file != -1 ? file : open_regular(folder, path, O_RDONLY, &found);
+}
+
+KzFolderAnswer kz_folder_rename(const KzFolder *folder, const char *from, const char *to, bool is_link, bool replaces)
 {
     Spelt old, fresh;
     int place = open_above(folder, from), other = open_above(folder, to);
     last_of(from, &old);
     last_of(to, &fresh);
-    bool is_right = place != -1 && other != -1 && (is_link ? link_over(place, old.text, other, fresh.text) : renameat(place, old.text, other, fresh.text) == 0) && sync_names(other);
+    bool is_right = place != -1 && other != -1 && (is_link ? link_over(place, old.text, other, fresh.text) : rename_over(place, old.text, other, fresh.text, replaces)) && sync_names(other);
     int error = errno;
     if (other != -1)
         close(other);

@@ -8,6 +8,7 @@
 
 typedef struct {
     int descriptor; /* -1: there is none */
+    int orphan;     /* of a call: the file that it is about has no name any more, and this descriptor, and 1 more */
 } KzFolder;
 
 typedef struct {
@@ -33,8 +34,10 @@ typedef struct {
 void kz_folder_look(const KzFolder *folder, const char *path, KzFound *found);
 /* Says the name of each entry of a folder. */
 void kz_folder_entries(const KzFolder *folder, const char *path, void (*say)(void *given, const char *name), void *given);
-/* What is there by the new name goes. */
-KzFolderAnswer kz_folder_rename(const KzFolder *folder, const char *from, const char *to, bool is_link);
+/* A descriptor of a file that is about to lose its name: -1 if there is none. */
+int kz_folder_hold(const KzFolder *folder, const char *path);
+/* What is there by the new name goes, if the file is to replace it. */
+KzFolderAnswer kz_folder_rename(const KzFolder *folder, const char *from, const char *to, bool is_link, bool replaces);
 KzFolderAnswer kz_folder_make(const KzFolder *folder, const char *path);
 KzFolderAnswer kz_folder_unlink(const KzFolder *folder, const char *path);
 

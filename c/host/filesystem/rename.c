@@ -127,11 +127,7 @@ static NTSTATUS target_status(const KzName *from, KzName *to, ULONG flags, bool 
         return STATUS_SUCCESS;
     if (to->file->marked || to->stream->is_marked)
         return STATUS_DELETE_PENDING;
-    if (!(to->base ? to->stream->opens : to->file->opens))
-        return STATUS_SUCCESS;
-    if (is_posix && !is_over_memory(to->volume))
-        return STATUS_NOT_SUPPORTED; /* the machine's folder would lose the bytes that handles still read */
-    return is_posix ? STATUS_SUCCESS : STATUS_ACCESS_DENIED;
+    return is_posix || !(to->base ? to->stream->opens : to->file->opens) ? STATUS_SUCCESS : STATUS_ACCESS_DENIED;
 }
 
 /* ---- What moves. */
@@ -259,10 +255,22 @@ static NTSTATUS name_stream(KzName *from, const char *text)
     return STATUS_SUCCESS;
 }
 
+/* In a folder of the machine: what has the new name keeps its bytes there as long as handles read them. */
+static NTSTATUS rename_below(const KzName *from, const KzName *to, const char *text, bool is_link)
+{
+    bool is_held = to != from && kz_exists(to) && to->file->opens;
+    if (is_held && !kz_hold_in_folder(to))
+        return STATUS_INSUFFICIENT_RESOURCES;
+    NTSTATUS status = kz_rename_in_folder(from->volume->id, from->text, text, is_link, kz_exists(to));
+    if (is_held && !NT_SUCCESS(status))
+        kz_forget_orphan(to->stream);
+    return status;
+}
+
 /* The new name is nobody's, or that of a file that goes for it. */
 static NTSTATUS put_in_place(KzName *from, KzName *to, const char *text, bool is_link)
 {
-    NTSTATUS status = kz_rename_in_folder(from->volume->id, from->text, text, is_link);
+    NTSTATUS status = rename_below(from, to, text, is_link);
     if (!NT_SUCCESS(status))
         return status;
     kz_make_above(from->volume, text);

@@ -64,6 +64,7 @@ KzStream *kz_add_stream(KzRecord *record, const char *name, size_t length)
 
 void kz_free_stream(KzStream *stream)
 {
+    kz_forget_orphan(stream);
     take_out(stream);
     kz_cut_bytes(&stream->pages, 0);
     kz_free_oplock(&stream->oplock);
@@ -81,6 +82,7 @@ void kz_begin_stream(KzStream *stream)
 void kz_end_stream(KzStream *stream)
 {
     stream->exists = stream->is_marked = false;
+    kz_forget_orphan(stream);
     kz_stream_is_cut(stream, 0);
     kz_cut_bytes(&stream->pages, 0);
     stream->is_gone = *stream->name;

@@ -54,6 +54,7 @@ typedef struct KzStream {
     SECTION_OBJECT_POINTERS sections;
     SHARE_ACCESS share;
     KzPages pages; /* of a volume in memory */
+    int orphan;    /* a descriptor, and 1 more, of a folder's file whose name went to another one while it was open; else 0 */
 } KzStream;
 
 /* A file or a directory, whatever it is called. NTFS's FCB. */

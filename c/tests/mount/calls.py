@@ -125,7 +125,8 @@ def refusals(ground, call):
     """What the protocol has no word for is refused."""
     at = ground.at
     put(at("a"), b"hello")
-    call("rename", "EXDEV", os.rename, at("a"), at("c"))
+    if ground.tools.renames == "copied":
+        call("rename", "EXDEV", os.rename, at("a"), at("c"))
     call("make a folder", "EPERM", os.mkdir, at("d"))
     call("remove a folder", "ENOENT", os.rmdir, at("d"))
     call("remove a file as a folder", "ENOTDIR", os.rmdir, at("a"))
@@ -350,13 +351,9 @@ def optional(tally, tools):
         data = whole(at("large"))
         call("rename what is large", None, os.rename, at("large"), at("l2"))
         call("all of it", data, whole, at("l2"))
-        with open(at("l2")) as _:
-            call("rename what is open", "EBUSY", os.rename, at("l2"), at("l3"))
-            put(at("tmp"), b"new")
-            call("rename onto what is open", "EBUSY", os.rename, at("tmp"), at("l2"))
-            call("mv onto what is open", True, lambda: subprocess.run(["mv", "-f", at("tmp"), at("l2")], capture_output=True).returncode != 0)
-        call("nothing of it is lost", data, whole, at("l2"))
-        call("nor of the other", b"new", whole, at("tmp"))
+        put(at("tmp"), b"new")
+        if tools.renames == "copied":
+            open_ones(call, at, data)
         call("then it is renamed", None, os.rename, at("tmp"), at("l4"))
         os.unlink(at("l4"))
         call("given times", None, os.utime, at("b"), (5, 7))
@@ -370,6 +367,16 @@ def optional(tally, tools):
         call("stat of that", "EACCES", os.stat, at("deny/x"))
         call("unlink a folder", "EISDIR", os.unlink, at("sub"))
         call("a program", 0, run_program, at("true"))
+
+
+def open_ones(call, at, data):
+    """What is open isn't copied, nor overwritten by a copy."""
+    with open(at("l2")) as _:
+        call("rename what is open", "EBUSY", os.rename, at("l2"), at("l3"))
+        call("rename onto what is open", "EBUSY", os.rename, at("tmp"), at("l2"))
+        call("mv onto what is open", True, lambda: subprocess.run(["mv", "-f", at("tmp"), at("l2")], capture_output=True).returncode != 0)
+    call("nothing of it is lost", data, whole, at("l2"))
+    call("nor of the other", b"new", whole, at("tmp"))
 
 
 def waits_of_renames(at):

@@ -11,7 +11,7 @@ import traceback
 
 from ground import Tally
 
-PARTS = "client calls cases modes folders model deletions held ends programs".split()
+PARTS = "client calls cases modes folders model deletions held ends safe programs".split()
 
 
 def tried(part, tools):
@@ -36,6 +36,8 @@ def main():
     parser.add_argument("--mount", required=True, type=shlex.split)
     parser.add_argument("--count", type=int, default=900, help="random operations")
     parser.add_argument("--seed", type=int)
+    parser.add_argument("--renames", choices=("copied", "closed", "all"), default="copied", help="what the server's frame renames: nothing, all but onto what is open, all")
+    parser.add_argument("--kills", type=int, default=8, help="how often the mount and the server are killed in a safe write")
     parser.add_argument("parts", nargs="*")
     tools = parser.parse_args()
     with multiprocessing.Pool(2, maxtasksperchild=1) as pool:

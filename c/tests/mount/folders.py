@@ -102,16 +102,17 @@ def linked(tally, tools):
         call("the link says the same", "../l", os.readlink, at("e/up"))
         call("where it leads isn't there any more", "ENOENT", whole, at("l"))
         put(at("new"), b"new")
-        with open(at("new"), "rb"):
-            call("an open file isn't renamed onto a link", "EBUSY", os.rename, at("new"), at("l"))
-        call("the link stays", "d/f", os.readlink, at("l"))
+        if tools.renames == "copied":
+            with open(at("new"), "rb"):
+                call("an open file isn't renamed onto a link", "EBUSY", os.rename, at("new"), at("l"))
+            call("the link stays", "d/f", os.readlink, at("l"))
         call("a closed one is", None, os.rename, at("new"), at("l"))
         call("and is a file", (b"new", False), lambda: (whole(at("l")), os.path.islink(ground.below("l"))))
 
 
 def twice(tally, tools):
     """A file that has two names keeps its bytes when it is renamed from the one to the other. With the folder below it keeps both names, as POSIX says."""
-    for options, wanted in ((("below={host}",), (b"bytes", b"bytes")), (("copyrename",), ("ENOENT", b"bytes"))):
+    for options, wanted in ((("below={host}",), (b"bytes", b"bytes")), (("copyrename",), ("ENOENT" if tools.renames == "copied" else b"bytes", b"bytes"))):
         with Ground(tally, tools, *options) as ground:
             at, call = ground.at, tally.call
             ground.attach(shift=100)
@@ -167,8 +168,13 @@ def moved(tally, tools):
         call("onto a file", "ENOTDIR", os.rename, at("a"), at("full/3"))
         call("a file onto a folder", "EISDIR", os.rename, at("a/1"), at("empty"))
         call("into itself", "EINVAL", os.rename, at("a"), at("a/b/c"))
-        with open(at("a/b/2"), "rb"):
-            call("while a file in it is open", "EBUSY", os.rename, at("a"), at("z"))
+        if tools.renames == "copied":
+            with open(at("a/b/2"), "rb"):
+                call("while a file in it is open", "EBUSY", os.rename, at("a"), at("z"))
+        put(at("a/gone"), b"gone")
+        with open(at("a/gone"), "rb"):
+            os.unlink(at("a/gone"))
+            call("while a deleted file in it is open", "EBUSY", os.rename, at("a"), at("z"))
         call("nothing was moved", ["1", "b", "moved"], lambda: sorted(os.listdir(at("a"))))
         before = os.stat(at("a")).st_mtime_ns
         put(at("a/later"), b"")

@@ -39,7 +39,7 @@ class Content:
 class Model:
     """Operations on names with one beginning, so that several go side by side."""
 
-    def __init__(self, folder, seed, prefix, hole):
+    def __init__(self, folder, seed, prefix, hole, renames):
         self.folder = folder
         self.random = random.Random(f"{seed}/{prefix}")
         self.prefix = prefix
@@ -50,6 +50,7 @@ class Model:
         self.steps = (
             (14, self.open_one), (10, self.close_one), (26, self.write), (22, self.read), (5, self.resize_open), (3, self.stat_open),
             (2, self.sync), (5, self.stat), (4, self.unlink), (2, self.list), (2, self.resize), (3, self.read_whole), (2, self.refused),
+            (4, self.rename if renames == "all" else self.rename_refused if renames == "copied" else self.stat),
         )
 
     def want(self, what, got, wanted):
@@ -174,9 +175,21 @@ class Model:
             self.want(f"bytes of {name}", data, bytes(content.data))
 
     def refused(self):
-        _, path, content = self.some()
+        _, path, _ = self.some()
         self.failing("mkdir", errno.EPERM, os.mkdir, path + "d")
+
+    def rename_refused(self):
+        _, path, content = self.some()
         self.failing("rename", errno.EXDEV if content else errno.ENOENT, os.rename, path, path + "r")
+
+    def rename(self):
+        """Onto any name, be they open or not: what had that name keeps its open files."""
+        (name, path, content), (to, to_path, _) = self.some(), self.some()
+        if any(each.opens and other == to for other, each in self.deleted):
+            return
+        self.failing(f"rename {name} {to}", self.missing(content), os.rename, path, to_path)
+        if content:
+            self.files[to] = self.files.pop(name)
 
     def run(self, count):
         """So many steps, and a look at all in the end: what differs, or an empty text."""
@@ -202,13 +215,13 @@ class Model:
             self.want(f"bytes of {name}", whole(os.path.join(self.folder, name)), bytes(content.data))
 
 
-def beside(ground, count, seed, prefixes, hole):
+def beside(ground, count, seed, prefixes, hole, renames):
     """Some models side by side: what differs."""
     results = {}
     threads = []
     for prefix in prefixes:
         def work(prefix=prefix):
-            results[prefix] = Model(ground.mount, seed, prefix, hole).run(count)
+            results[prefix] = Model(ground.mount, seed, prefix, hole, renames).run(count)
         threads.append(threading.Thread(target=work))
     for thread in threads:
         thread.start()
@@ -224,5 +237,5 @@ def run(tally, tools):
     for options, prefixes, hole in (((), "m", b"\xff"), ((), "abcd", b"\xff"), (("cached",), "wxyz", b"\0")):
         with Ground(tally, tools, *options, patience=300 + tools.count / 5) as ground:
             ground.attach(**(filters if hole == b"\0" else filters | {"shift": 100}))
-            found = beside(ground, tools.count // len(prefixes), seed, prefixes, hole)
+            found = beside(ground, tools.count // len(prefixes), seed, prefixes, hole, tools.renames)
             tally.note(f"random operations {options}, seed {seed}", found, "")

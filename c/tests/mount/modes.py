@@ -194,7 +194,7 @@ def full(tally, tools):
                     tally.call(f"a full disk with {options}", wanted, fill, ground.at("x"))
                     os.unlink(ground.at("x"))
                     tally.call("and with room again", True, until, lambda: put(ground.at("y"), b"hello") == 5)
-                    if options:
+                    if options and tools.renames == "copied":
                         crowded(tally, ground)
         finally:
             subprocess.run(["umount", "-l", place], check=True)

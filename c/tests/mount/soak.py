@@ -63,8 +63,8 @@ def may_be(old, got, doing):
     return len(got) >= len(old) and len(got) <= len(new) and all(byte in (old[place:place + 1], new[place:place + 1]) for place, byte in ((n, got[n:n + 1]) for n in range(len(got))))
 
 
-def in_doubt(model, got):
-    """What is to be taken as there, where a call was under way: None where it can't be so."""
+def in_doubt(model, got, copies):
+    """What is to be taken as there, where a call was under way: None where it can't be so. Of a rename by a copy a part may be there."""
     doing, wanted = model.doing, dict(model.files)
     name = doing["name"]
     old, is_now = wanted.get(name), got.get(name)
@@ -79,15 +79,15 @@ def in_doubt(model, got):
         if is_now is None and moved == old:
             wanted.pop(name)
             wanted[to] = moved
-        elif is_now == old and moved is not None and (old.startswith(moved) or moved == wanted.get(to)):
+        elif copies and is_now == old and moved is not None and (old.startswith(moved) or moved == wanted.get(to)):
             wanted[to] = moved
     return wanted if wanted == got else None
 
 
-def settle(model, folder):
+def settle(model, folder, copies):
     """Looks at the folder after an end: what was acknowledged has to be there."""
     got = found(folder)
-    wanted = in_doubt(model, got) if model.doing else model.files
+    wanted = in_doubt(model, got, copies) if model.doing else model.files
     if got != wanted and not (model.doing and got == model.files):
         sizes = {name: (len(model.files.get(name, b"")), len(got.get(name, b""))) for name in {*model.files, *got}}
         print(f"{folder}: {model.doing and {**model.doing, 'data': '..'}} {sizes}", flush=True)
@@ -95,6 +95,29 @@ def settle(model, folder):
     model.files = got
     model.write(None)
     return True
+
+
+def rename(model, folder, chance, name):
+    """A rename, while one of both names is open or none: whether who has that open reads the same after it."""
+    to = chance.choice([other for other in NAMES if other != name])
+    held, opened = chance.choice((None, name, to)), None
+    wanted = model.files.get(held)
+    model.write({"call": "rename", "name": name, "to": to})
+    if wanted is not None:
+        opened = os.open(os.path.join(folder, held), os.O_RDONLY)
+    try:
+        os.rename(os.path.join(folder, name), os.path.join(folder, to))
+        model.files[to] = model.files.pop(name)
+    except PermissionError:  # what was copied stays
+        model.files[to] = model.files[name]
+    except OSError as error:
+        if error.errno not in (errno.EXDEV, errno.EBUSY):
+            raise
+    finally:
+        is_right = opened is None or os.pread(opened, LARGEST * 2, 0) == wanted
+        if opened is not None:
+            os.close(opened)
+    return is_right
 
 
 def step(model, folder, chance):
@@ -123,16 +146,8 @@ def step(model, folder, chance):
         except PermissionError:  # a filter denies deletions
             pass
     elif call == "rename":
-        to = chance.choice([other for other in NAMES if other != name])
-        model.write({"call": "rename", "name": name, "to": to})
-        try:
-            os.rename(path, os.path.join(folder, to))
-            model.files[to] = model.files.pop(name)
-        except PermissionError:  # what was copied stays
-            model.files[to] = old
-        except OSError as error:
-            if error.errno not in (errno.EXDEV, errno.EBUSY):
-                raise
+        if not rename(model, folder, chance, name):
+            return False
     else:
         with open(path, "rb", buffering=0) as file:
             if call == "sync":
@@ -143,7 +158,7 @@ def step(model, folder, chance):
     return True
 
 
-def program(folder, kept, seed):
+def program(folder, kept, seed, copies):
     """A program: its exit status."""
     chance, model, steps = random.Random(seed), Model(kept), 0
     try:
@@ -151,7 +166,7 @@ def program(folder, kept, seed):
             os.mkdir(folder)
         except FileExistsError:
             pass
-        if not settle(model, folder):
+        if not settle(model, folder, copies):
             return WRONG
         while True:
             if not step(model, folder, chance):
@@ -182,7 +197,7 @@ class Soak:
     def start(self, number):
         """Starts a program anew."""
         self.seeds += 1
-        words = [sys.executable, __file__, "--program", self.ground.at(f"p{number}"), os.path.join(self.ground.room, f"kept{number}"), str(self.words.seed * 1000 + self.seeds)]
+        words = [sys.executable, __file__, "--program", self.ground.at(f"p{number}"), os.path.join(self.ground.room, f"kept{number}"), str(self.words.seed * 1000 + self.seeds), self.words.renames]
         self.running[number] = subprocess.Popen(words)
 
     def reap(self, number):
@@ -293,7 +308,7 @@ class Soak:
 def main():
     """The program: its exit status."""
     if sys.argv[1:2] == ["--program"]:
-        return program(sys.argv[2], sys.argv[3], int(sys.argv[4]))
+        return program(sys.argv[2], sys.argv[3], int(sys.argv[4]), sys.argv[5] == "copied")
     parser = argparse.ArgumentParser(description=__doc__)
     parser.add_argument("--server", required=True)
     parser.add_argument("--mount", required=True, type=shlex.split)
@@ -301,6 +316,7 @@ def main():
     parser.add_argument("--seed", type=int, default=int(time.time()) % 100_000)
     parser.add_argument("--filters", default="shift@100,carry@200")
     parser.add_argument("--passing", default="meter", help="a filter that comes and goes; empty: none")
+    parser.add_argument("--renames", choices=("copied", "closed", "all"), default="copied", help="what the server's frame renames")
     words = parser.parse_args()
     place = "/dev/shm/kazdrin-soak"
     words.is_small = os.geteuid() == 0 and not os.path.exists(place) and os.makedirs(place) is None

@@ -17,4 +17,4 @@ else
     echo "mount: left out: the sanitizers, which cc hasn't here"
 fi
 make -s -C c fltmount PROGRAM="$room/fltmount" CFLAGS="$words" || exit 2
-$tests/mount/check.py --server "$server" --mount "$room/fltmount" --count "${COUNT:-900}" "$@"
+$tests/mount/check.py --server "$server" --mount "$room/fltmount" --count "${COUNT:-900}" --renames copied "$@"

@@ -31,6 +31,7 @@ struct _FLT_FILTER {
     const KzDriver *driver;
     FLT_REGISTRATION registration;
     bool is_registered, is_started, is_mandatory;
+    ULONG features;  /* SupportedFeatures of its key in the registry */
     bool gave_up;    /* a wait that nobody here could end: what it does behind that isn't its mistake */
     uint32_t end; /* how far its end came: 0, or the status that stopped it */
     char altitude[68]; /* where it is attached by itself; empty if it isn't */
@@ -102,6 +103,7 @@ typedef struct KzFile {
     ACCESS_MASK access;  /* that its create was granted */
     GUID oplock_key;     /* if its create said one: handles of the same key break no oplock of one another */
     bool has_oplock_key, asks_next; /* its create said that it asks for an oplock next */
+    ULONG next_ea; /* how many extended attributes a query of them has passed */
     PKTRANSACTION transaction; /* in which it was opened; NULL if in none */
     ULONG_PTR created;   /* what the file system made of its create: FILE_OPENED and its kin */
     struct {             /* of a directory */
@@ -152,6 +154,7 @@ typedef struct {
     struct KzNameState *name;
     struct KzNoticeState *notice;
     struct KzOwnOplockState *ownoplock;
+    struct KzFileLockState *filelock;
     struct KzPieceState *piece;
     struct KzPortState *port;
     struct KzProcessState *process;

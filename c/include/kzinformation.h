@@ -376,6 +376,12 @@ typedef struct _FILE_LOCK {
     PVOID LastReturnedLock;
     LONG volatile LockRequestsInProgress;
 } FILE_LOCK, *PFILE_LOCK;
+#define FsRtlAreThereCurrentFileLocks(lock) ((lock)->FastIoIsQuestionable)
+VOID FsRtlInitializeFileLock(PFILE_LOCK FileLock, PCOMPLETE_LOCK_IRP_ROUTINE CompleteLockIrpRoutine, PUNLOCK_ROUTINE UnlockRoutine);
+VOID FsRtlUninitializeFileLock(PFILE_LOCK FileLock);
+NTSTATUS FsRtlFastUnlockAll(PFILE_LOCK FileLock, PFILE_OBJECT FileObject, PEPROCESS Process, PVOID Context);
+BOOLEAN FsRtlFastCheckLockForRead(PFILE_LOCK FileLock, PLARGE_INTEGER FileOffset, PLARGE_INTEGER Length, ULONG Key, PFILE_OBJECT FileObject, PVOID Process);
+BOOLEAN FsRtlFastCheckLockForWrite(PFILE_LOCK FileLock, PLARGE_INTEGER FileOffset, PLARGE_INTEGER Length, ULONG Key, PFILE_OBJECT FileObject, PVOID Process);
 typedef struct _FILE_FULL_DIRECTORY_INFORMATION {
     ULONG NextEntryOffset;
     ULONG FileIndex;

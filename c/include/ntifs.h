@@ -2,7 +2,7 @@
 #ifndef KZ_NTIFS_H
 #define KZ_NTIFS_H
 
-#include <wdm.h>
+#include <ntddk.h>
 
 KZ_BEGIN
 
@@ -11,119 +11,6 @@ typedef enum _DIRECTORY_NOTIFY_INFORMATION_CLASS {
     DirectoryNotifyExtendedInformation,
     DirectoryNotifyFullInformation
 } DIRECTORY_NOTIFY_INFORMATION_CLASS, *PDIRECTORY_NOTIFY_INFORMATION_CLASS;
-
-typedef enum _FILE_INFORMATION_CLASS {
-    FileDirectoryInformation = 1,
-    FileFullDirectoryInformation = 2,
-    FileBothDirectoryInformation = 3,
-    FileBasicInformation = 4,
-    FileStandardInformation = 5,
-    FileInternalInformation = 6,
-    FileEaInformation = 7,
-    FileAccessInformation = 8,
-    FileNameInformation = 9,
-    FileRenameInformation = 10,
-    FileLinkInformation = 11,
-    FileNamesInformation = 12,
-    FileDispositionInformation = 13,
-    FilePositionInformation = 14,
-    FileFullEaInformation = 15,
-    FileModeInformation = 16,
-    FileAlignmentInformation = 17,
-    FileAllInformation = 18,
-    FileAllocationInformation = 19,
-    FileEndOfFileInformation = 20,
-    FileAlternateNameInformation = 21,
-    FileStreamInformation = 22,
-    FilePipeInformation = 23,
-    FilePipeLocalInformation = 24,
-    FilePipeRemoteInformation = 25,
-    FileMailslotQueryInformation = 26,
-    FileMailslotSetInformation = 27,
-    FileCompressionInformation = 28,
-    FileObjectIdInformation = 29,
-    FileCompletionInformation = 30,
-    FileMoveClusterInformation = 31,
-    FileQuotaInformation = 32,
-    FileReparsePointInformation = 33,
-    FileNetworkOpenInformation = 34,
-    FileAttributeTagInformation = 35,
-    FileTrackingInformation = 36,
-    FileIdBothDirectoryInformation = 37,
-    FileIdFullDirectoryInformation = 38,
-    FileValidDataLengthInformation = 39,
-    FileShortNameInformation = 40,
-    FileIoCompletionNotificationInformation = 41,
-    FileIoStatusBlockRangeInformation = 42,
-    FileIoPriorityHintInformation = 43,
-    FileSfioReserveInformation = 44,
-    FileSfioVolumeInformation = 45,
-    FileHardLinkInformation = 46,
-    FileProcessIdsUsingFileInformation = 47,
-    FileNormalizedNameInformation = 48,
-    FileNetworkPhysicalNameInformation = 49,
-    FileIdGlobalTxDirectoryInformation = 50,
-    FileIsRemoteDeviceInformation = 51,
-    FileUnusedInformation = 52,
-    FileNumaNodeInformation = 53,
-    FileStandardLinkInformation = 54,
-    FileRemoteProtocolInformation = 55,
-    FileRenameInformationBypassAccessCheck = 56,
-    FileLinkInformationBypassAccessCheck = 57,
-    FileVolumeNameInformation = 58,
-    FileIdInformation = 59,
-    FileIdExtdDirectoryInformation = 60,
-    FileReplaceCompletionInformation = 61,
-    FileHardLinkFullIdInformation = 62,
-    FileIdExtdBothDirectoryInformation = 63,
-    FileDispositionInformationEx = 64,
-    FileRenameInformationEx = 65,
-    FileRenameInformationExBypassAccessCheck = 66,
-    FileDesiredStorageClassInformation = 67,
-    FileStatInformation = 68,
-    FileMemoryPartitionInformation = 69,
-    FileStatLxInformation = 70,
-    FileCaseSensitiveInformation = 71,
-    FileLinkInformationEx = 72,
-    FileLinkInformationExBypassAccessCheck = 73,
-    FileStorageReserveIdInformation = 74,
-    FileCaseSensitiveInformationForceAccessCheck = 75,
-    FileMaximumInformation
-} FILE_INFORMATION_CLASS, *PFILE_INFORMATION_CLASS;
-
-typedef enum _FSINFOCLASS {
-    FileFsVolumeInformation = 1,
-    FileFsLabelInformation = 2,
-    FileFsSizeInformation = 3,
-    FileFsDeviceInformation = 4,
-    FileFsAttributeInformation = 5,
-    FileFsControlInformation = 6,
-    FileFsFullSizeInformation = 7,
-    FileFsObjectIdInformation = 8,
-    FileFsDriverPathInformation = 9,
-    FileFsVolumeFlagsInformation = 10,
-    FileFsSectorSizeInformation = 11,
-    FileFsDataCopyInformation = 12,
-    FileFsMetadataSizeInformation = 13,
-    FileFsFullSizeInformationEx = 14,
-    FileFsMaximumInformation
-} FS_INFORMATION_CLASS, *PFS_INFORMATION_CLASS;
-
-typedef struct _FILE_BASIC_INFORMATION {
-    LARGE_INTEGER CreationTime;
-    LARGE_INTEGER LastAccessTime;
-    LARGE_INTEGER LastWriteTime;
-    LARGE_INTEGER ChangeTime;
-    ULONG FileAttributes;
-} FILE_BASIC_INFORMATION, *PFILE_BASIC_INFORMATION;
-
-typedef struct _FILE_STANDARD_INFORMATION {
-    LARGE_INTEGER AllocationSize;
-    LARGE_INTEGER EndOfFile;
-    ULONG NumberOfLinks;
-    BOOLEAN DeletePending;
-    BOOLEAN Directory;
-} FILE_STANDARD_INFORMATION, *PFILE_STANDARD_INFORMATION;
 
 typedef struct _FILE_INTERNAL_INFORMATION {
     LARGE_INTEGER IndexNumber;
@@ -145,10 +32,6 @@ typedef struct _FILE_EA_INFORMATION {
 typedef struct _FILE_ACCESS_INFORMATION {
     ACCESS_MASK AccessFlags;
 } FILE_ACCESS_INFORMATION, *PFILE_ACCESS_INFORMATION;
-
-typedef struct _FILE_POSITION_INFORMATION {
-    LARGE_INTEGER CurrentByteOffset;
-} FILE_POSITION_INFORMATION, *PFILE_POSITION_INFORMATION;
 
 typedef struct _FILE_MODE_INFORMATION {
     ULONG Mode;
@@ -174,16 +57,6 @@ typedef struct _FILE_ALL_INFORMATION {
     FILE_ALIGNMENT_INFORMATION AlignmentInformation;
     FILE_NAME_INFORMATION NameInformation;
 } FILE_ALL_INFORMATION, *PFILE_ALL_INFORMATION;
-
-typedef struct _FILE_NETWORK_OPEN_INFORMATION {
-    LARGE_INTEGER CreationTime;
-    LARGE_INTEGER LastAccessTime;
-    LARGE_INTEGER LastWriteTime;
-    LARGE_INTEGER ChangeTime;
-    LARGE_INTEGER AllocationSize;
-    LARGE_INTEGER EndOfFile;
-    ULONG FileAttributes;
-} FILE_NETWORK_OPEN_INFORMATION, *PFILE_NETWORK_OPEN_INFORMATION;
 
 typedef struct _FILE_ATTRIBUTE_TAG_INFORMATION {
     ULONG FileAttributes;
@@ -697,6 +570,19 @@ KZ_BEGIN
 #define KZ_ROUTINE(type, answer, message, name, ...) type name(__VA_ARGS__);
 #include <kzroutines.h>
 #undef KZ_ROUTINE
+NTSTATUS ZwDeleteFile(POBJECT_ATTRIBUTES ObjectAttributes);
+NTSTATUS ZwQueryEaFile(HANDLE FileHandle, PIO_STATUS_BLOCK IoStatusBlock, PVOID Buffer, ULONG Length, BOOLEAN ReturnSingleEntry, PVOID EaList, ULONG EaListLength, PULONG EaIndex,
+                       BOOLEAN RestartScan);
+NTSTATUS ZwSetEaFile(HANDLE FileHandle, PIO_STATUS_BLOCK IoStatusBlock, PVOID Buffer, ULONG Length);
+NTSTATUS ZwFlushBuffersFile(HANDLE FileHandle, PIO_STATUS_BLOCK IoStatusBlock);
+NTSTATUS ZwQueryDirectoryFile(HANDLE FileHandle, HANDLE Event, PIO_APC_ROUTINE ApcRoutine, PVOID ApcContext, PIO_STATUS_BLOCK IoStatusBlock, PVOID FileInformation,
+                              ULONG Length, FILE_INFORMATION_CLASS FileInformationClass, BOOLEAN ReturnSingleEntry, PUNICODE_STRING FileName, BOOLEAN RestartScan);
+NTSTATUS ZwFsControlFile(HANDLE FileHandle, HANDLE Event, PIO_APC_ROUTINE ApcRoutine, PVOID ApcContext, PIO_STATUS_BLOCK IoStatusBlock, ULONG FsControlCode,
+                         PVOID InputBuffer, ULONG InputBufferLength, PVOID OutputBuffer, ULONG OutputBufferLength);
+NTSTATUS ZwSetSecurityObject(HANDLE Handle, SECURITY_INFORMATION SecurityInformation, PSECURITY_DESCRIPTOR SecurityDescriptor);
+NTSTATUS ZwQuerySecurityObject(HANDLE Handle, SECURITY_INFORMATION SecurityInformation, PSECURITY_DESCRIPTOR SecurityDescriptor, ULONG Length, PULONG LengthNeeded);
+NTSTATUS ZwQueryInformationProcess(HANDLE ProcessHandle, ULONG ProcessInformationClass, PVOID ProcessInformation, ULONG ProcessInformationLength,
+                                   PULONG ReturnLength);
 NTSTATUS ZwDeleteKey(HANDLE KeyHandle);
 NTSTATUS ZwOpenProcess(PHANDLE ProcessHandle, ACCESS_MASK DesiredAccess, POBJECT_ATTRIBUTES ObjectAttributes, PCLIENT_ID ClientId);
 NTSTATUS ZwOpenProcessTokenEx(HANDLE ProcessHandle, ACCESS_MASK DesiredAccess, ULONG HandleAttributes, PHANDLE TokenHandle);

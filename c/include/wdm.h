@@ -1417,4 +1417,6 @@ NTSTATUS PsRemoveLoadImageNotifyRoutine(PLOAD_IMAGE_NOTIFY_ROUTINE NotifyRoutine
 
 KZ_END
 
+#include <kzfile.h>
+
 #endif

@@ -214,9 +214,14 @@ struct KzOp {
         size_t rest;                 /* letters of its name behind that */
     } met;
     FLT_TAG_DATA_BUFFER *tag; /* the same, as callbacks see it */
+    LIST_ENTRY opens;         /* tags that it is to open by themselves, as filters added them; all zeros: none */
     GUID activity;
     bool has_activity;
     KzPriority priority;
+    struct {
+        bool is_set;
+        ULONG from;
+    } zeroing; /* FsZeroingOffset of its IRP */
     struct {
         struct KzOplock *of; /* whose break it waits for; NULL: none's */
         bool is_over, is_apart; /* it waits no more; it isn't its own thread that waits */

@@ -1,9 +1,10 @@
-/* What the file system makes of the other operations: extended attributes, security, quotas, locks of bytes, control codes, sections, and what has no file. */
+/* What the file system makes of the other operations: security, quotas, locks of bytes, control codes, sections, and what has no file. */
 #include "filesystem/control.h"
 
 #include "core/memory.h"
 #include "core/op.h"
 #include "core/told.h"
+#include "filesystem/ea.h"
 #include "filesystem/fsctl.h"
 #include "filesystem/journal.h"
 #include "filesystem/name.h"
@@ -15,48 +16,6 @@
 #include "filesystem/tag.h"
 #include "filesystem/tree.h"
 #include "lib/descriptor.h"
-
-/* ---- Extended attributes: a chain, as it was set. */
-static bool is_chain(const uint8_t *bytes, size_t length, size_t *wrong)
-{
-    const size_t head = offsetof(FILE_FULL_EA_INFORMATION, EaName);
-    for (*wrong = 0; *wrong + head <= length;) {
-        const FILE_FULL_EA_INFORMATION *one = (const void *)(bytes + *wrong);
-        size_t size = head + one->EaNameLength + 1u + one->EaValueLength;
-        if (!one->EaNameLength || *wrong + size > length || one->EaName[one->EaNameLength])
-            return false;
-        if (!one->NextEntryOffset)
-            return true;
-        if (one->NextEntryOffset < size || one->NextEntryOffset % 4)
-            return false;
-        *wrong += one->NextEntryOffset;
-    }
-    return false;
-}
-
-static NTSTATUS set_ea(KzOp *op, const FLT_PARAMETERS *now)
-{
-    size_t wrong;
-    KzName *name = op->file->name;
-    if (now->SetEa.Length && !is_chain(now->SetEa.EaBuffer, now->SetEa.Length, &wrong)) {
-        op->opaque->information = wrong;
-        return STATUS_EA_LIST_INCONSISTENT;
-    }
-    kz_keep_bytes(&name->file->ea, now->SetEa.EaBuffer, now->SetEa.Length);
-    kz_changed(name, FILE_NOTIFY_CHANGE_EA, FILE_ACTION_MODIFIED);
-    return STATUS_SUCCESS;
-}
-
-static NTSTATUS query_ea(KzOp *op, const FLT_PARAMETERS *now)
-{
-    const KzBytes *kept = &op->file->name->file->ea;
-    if (!kept->length)
-        return STATUS_NO_EAS_ON_FILE;
-    if (now->QueryEa.Length < kept->length)
-        return STATUS_BUFFER_OVERFLOW;
-    memcpy(now->QueryEa.EaBuffer, kept->bytes, op->opaque->information = kept->length);
-    return STATUS_SUCCESS;
-}
 
 /* ---- Security: a descriptor that stands in one piece, as it was set; where none was, one of nobody's, with no lists. */
 static NTSTATUS set_security(KzOp *op, const FLT_PARAMETERS *now)
@@ -196,9 +155,9 @@ static NTSTATUS of_file(KzOp *op, const FLT_PARAMETERS *now)
 {
     switch (op->opaque->major) {
     case IRP_MJ_QUERY_EA:
-        return query_ea(op, now);
+        return kz_query_ea(op, now);
     case IRP_MJ_SET_EA:
-        return set_ea(op, now);
+        return kz_set_ea(op, now);
     case IRP_MJ_QUERY_SECURITY:
         return query_security(op, now);
     case IRP_MJ_SET_SECURITY:

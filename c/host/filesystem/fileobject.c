@@ -121,6 +121,14 @@ bool kz_is_synchronous(const KzOp *op)
     return op->file->object.Flags & FO_SYNCHRONOUS_IO || (op->own.is_own && !op->own.is_user && op->own.is_waited_for);
 }
 
+void kz_free_file(KzFile *file)
+{
+    free(file->path);
+    free(file->scan.pattern);
+    free(file->scan.last);
+    free(file);
+}
+
 void kz_let_go_file(KzFile *file)
 {
     if (--file->users > 0)
@@ -132,10 +140,7 @@ void kz_let_go_file(KzFile *file)
         }
     kz_free_file_name(file);
     kz_let_go_name(file->name);
-    free(file->path);
-    free(file->scan.pattern);
-    free(file->scan.last);
-    free(file);
+    kz_free_file(file);
 }
 
 /* Numbers that are no handle of a driver's own. */

@@ -23,6 +23,8 @@ KzFile *kz_file_of_client(HANDLE root);
 /* By a handle that waits for each, or by a driver's call that does. */
 bool kz_is_synchronous(const KzOp *op);
 void kz_let_go_file(KzFile *file);
+/* Its memory alone. */
+void kz_free_file(KzFile *file);
 void kz_drop_file(uint64_t handle);
 void kz_adopt_name(KzFile *file);
 void kz_free_file_name(KzFile *file);

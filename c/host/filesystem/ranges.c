@@ -9,12 +9,6 @@
 
 #include <stdlib.h>
 
-typedef struct Lock {
-    struct Lock *next;
-    KzFile *file;
-    KzRange range;
-} Lock;
-
 /* An operation that waits for a lock. */
 typedef struct Wanted {
     struct Wanted *next;
@@ -24,28 +18,82 @@ typedef struct Wanted {
 } Wanted;
 
 struct KzRangeState {
-    Lock *first;
     Wanted *wanted;
 };
 
-static bool meets(const Lock *one, const KzFile *file, uint64_t from, uint64_t length)
+/* ---- Of anything. */
+static bool is_apart(const KzRange *held, uint64_t from, uint64_t length)
 {
-    const KzRange *held = &one->range;
-    bool is_apart = !length || !held->length || from >= held->from + held->length || held->from >= from + length;
-    return one->file->name->stream == file->name->stream && !is_apart;
+    return !length || !held->length || from >= held->from + held->length || held->from >= from + length;
 }
 
-NTSTATUS kz_lock_range(KzFile *file, const KzRange *range)
+/* Over an exclusive lock its owner may have a shared one, too. */
+static bool is_in_the_way(const KzHeldRange *one, const void *owner, const KzRange *range)
+{
+    bool is_own = one->owner == owner && one->range.key == range->key;
+    return !is_apart(&one->range, range->from, range->length) && (range->is_exclusive || (one->range.is_exclusive && !is_own));
+}
+
+NTSTATUS kz_hold_range(KzHeldRange **list, const void *owner, const KzRange *range)
 {
     if (range->length && range->from > UINT64_MAX - range->length)
         return STATUS_INVALID_LOCK_RANGE;
-    for (const Lock *one = kz.range->first; one; one = one->next)
-        if (meets(one, file, range->from, range->length) && (range->is_exclusive || one->range.is_exclusive))
+    for (const KzHeldRange *one = *list; one; one = one->next)
+        if (is_in_the_way(one, owner, range))
             return STATUS_LOCK_NOT_GRANTED;
-    Lock *made = kz_memory(sizeof *made);
-    *made = (Lock){kz.range->first, file, *range};
-    kz.range->first = made;
+    KzHeldRange *made = kz_memory(sizeof *made);
+    *made = (KzHeldRange){*list, owner, *range};
+    *list = made;
     return STATUS_SUCCESS;
+}
+
+static KzHeldRange *taken(KzHeldRange **at)
+{
+    KzHeldRange *gone = *at;
+    if (gone)
+        *at = gone->next;
+    return gone;
+}
+
+static bool is_the_one(const KzHeldRange *one, const void *owner, const KzRange *range, bool is_exclusive)
+{
+    return one->owner == owner && one->range.from == range->from && one->range.length == range->length && one->range.key == range->key && one->range.is_exclusive == is_exclusive;
+}
+
+static KzHeldRange **place_of(KzHeldRange **at, const void *owner, const KzRange *range, bool is_exclusive)
+{
+    while (*at && !is_the_one(*at, owner, range, is_exclusive))
+        at = &(*at)->next;
+    return at;
+}
+
+KzHeldRange *kz_take_range(KzHeldRange **list, const void *owner, const KzRange *range)
+{
+    KzHeldRange **exclusive = place_of(list, owner, range, true);
+    return taken(*exclusive ? exclusive : place_of(list, owner, range, false));
+}
+
+KzHeldRange *kz_take_any_range(KzHeldRange **list, const void *owner, const ULONG *key)
+{
+    while (*list && ((*list)->owner != owner || (key && (*list)->range.key != *key)))
+        list = &(*list)->next;
+    return taken(list);
+}
+
+bool kz_is_held_against(const KzHeldRange *list, const void *owner, const ULONG *key, uint64_t from, uint64_t length, bool is_write)
+{
+    for (const KzHeldRange *one = list; one; one = one->next) {
+        bool is_own = one->owner == owner && (!key || one->range.key == *key), is_against = one->range.is_exclusive ? !is_own : is_write;
+        if (is_against && !is_apart(&one->range, from, length))
+            return true;
+    }
+    return false;
+}
+
+/* ---- Of streams. */
+NTSTATUS kz_lock_range(KzFile *file, const KzRange *range)
+{
+    return kz_hold_range(&file->name->stream->locks, file, range);
 }
 
 NTSTATUS kz_wait_for_range(KzOp *op, const KzRange *range)
@@ -78,57 +126,32 @@ static void grant(void)
     }
 }
 
-static bool is_the_one(const Lock *one, const KzFile *file, const KzRange *range)
-{
-    return one->file == file && one->range.from == range->from && one->range.length == range->length && one->range.key == range->key;
-}
-
 NTSTATUS kz_unlock_range(KzFile *file, const KzRange *range)
 {
-    for (Lock **at = &kz.range->first; *at; at = &(*at)->next) {
-        Lock *one = *at;
-        if (!is_the_one(one, file, range))
-            continue;
-        *at = one->next;
-        free(one);
-        grant();
-        return STATUS_SUCCESS;
-    }
-    return STATUS_RANGE_NOT_LOCKED;
+    KzHeldRange *gone = kz_take_range(&file->name->stream->locks, file, range);
+    if (!gone)
+        return STATUS_RANGE_NOT_LOCKED;
+    free(gone);
+    grant();
+    return STATUS_SUCCESS;
 }
 
 NTSTATUS kz_unlock_ranges(KzFile *file, const ULONG *key)
 {
-    for (Lock **at = &kz.range->first; *at;) {
-        Lock *one = *at;
-        if (one->file == file && (!key || one->range.key == *key)) {
-            *at = one->next;
-            free(one);
-        } else {
-            at = &one->next;
-        }
-    }
+    for (KzHeldRange *gone; file->name && (gone = kz_take_any_range(&file->name->stream->locks, file, key));)
+        free(gone);
     grant();
     return STATUS_SUCCESS;
 }
 
 bool kz_has_ranges(const KzStream *stream)
 {
-    for (const Lock *one = kz.range->first; one; one = one->next)
-        if (one->file->name->stream == stream)
-            return true;
-    return false;
+    return stream->locks;
 }
 
-/* Reads meet the exclusive locks of others; writes meet shared ones too, also the file object's own. */
 bool kz_is_locked(const KzFile *file, uint64_t from, uint64_t length, bool is_write)
 {
-    for (const Lock *one = kz.range->first; file->name && one; one = one->next) {
-        bool is_against = one->range.is_exclusive ? one->file != file : is_write;
-        if (is_against && meets(one, file, from, length))
-            return true;
-    }
-    return false;
+    return file->name && kz_is_held_against(file->name->stream->locks, file, NULL, from, length, is_write);
 }
 
 static void free_ranges(void)
@@ -136,11 +159,6 @@ static void free_ranges(void)
     while (kz.range->wanted) {
         Wanted *gone = kz.range->wanted;
         kz.range->wanted = gone->next;
-        free(gone);
-    }
-    while (kz.range->first) {
-        Lock *gone = kz.range->first;
-        kz.range->first = gone->next;
         free(gone);
     }
 }

@@ -11,6 +11,7 @@
 #include "filesystem/disk.h"
 #include "filesystem/name.h"
 #include "filesystem/notice.h"
+#include "filesystem/ranges.h"
 #include "oplock/oplock.h"
 
 #include <stdlib.h>
@@ -68,6 +69,10 @@ void kz_free_stream(KzStream *stream)
     take_out(stream);
     kz_cut_bytes(&stream->pages, 0);
     kz_free_oplock(&stream->oplock);
+    for (KzHeldRange *gone; (gone = stream->locks);) {
+        stream->locks = gone->next;
+        free(gone);
+    }
     free(stream->name);
     free(stream);
 }

@@ -184,6 +184,18 @@ static bool meet(KzOp *op, const KzRecord *record, size_t rest)
     return true;
 }
 
+/* Whether a filter wants it opened by itself. */
+static bool is_to_open(const KzOp *op, const KzRecord *record)
+{
+    const REPARSE_DATA_BUFFER *point = point_of(record);
+    for (const LIST_ENTRY *at = op->opens.Flink; at && at != &op->opens; at = at->Flink) {
+        const OPEN_REPARSE_LIST_ENTRY *one = CONTAINING_RECORD(at, OPEN_REPARSE_LIST_ENTRY, OpenReparseListEntry);
+        if (one->ReparseTag == point->ReparseTag && (IsReparseTagMicrosoft(one->ReparseTag) || memcmp(&one->ReparseGuid, guid_of(point), sizeof one->ReparseGuid) == 0))
+            return true;
+    }
+    return false;
+}
+
 /* A directory above it. */
 static bool meets_above(KzOp *op, const KzName *name)
 {
@@ -191,7 +203,7 @@ static bool meets_above(KzOp *op, const KzName *name)
     for (const char *slash = strchr(name->text, '/'); slash; slash = strchr(slash + 1, '/')) {
         snprintf(above, sizeof above, "%.*s", (int)(slash - name->text), name->text);
         const KzName *one = kz_find_name(name->volume, above);
-        if (one && one->file->exists && one->file->reparse.length)
+        if (one && one->file->exists && one->file->reparse.length && !is_to_open(op, one->file))
             return meet(op, one->file, strlen(slash));
     }
     return false;
@@ -203,7 +215,7 @@ bool kz_meets_tag(KzOp *op, uint8_t mode)
     bool is_link_itself = op->create.options & FILE_OPEN_REPARSE_POINT || mode == 1;
     if (meets_above(op, name))
         return true;
-    return !is_link_itself && name->file->exists && name->file->reparse.length && meet(op, name->file, 0);
+    return !is_link_itself && name->file->exists && name->file->reparse.length && !is_to_open(op, name->file) && meet(op, name->file, 0);
 }
 
 /* ---- Where the system goes on. */

@@ -53,6 +53,7 @@ typedef struct KzStream {
     struct KzOplock *oplock; /* NULL: none was ever asked for */
     SECTION_OBJECT_POINTERS sections;
     SHARE_ACCESS share;
+    struct KzHeldRange *locks; /* of bytes (ranges.h) */
     KzPages pages; /* of a volume in memory */
     int orphan;    /* a descriptor, and 1 more, of a folder's file whose name went to another one while it was open; else 0 */
 } KzStream;

@@ -125,13 +125,19 @@ NTSTATUS ZwQueryVolumeInformationFile(HANDLE FileHandle, PIO_STATUS_BLOCK IoStat
     return ask_by_handle(FileHandle, IoStatusBlock, &asked, FsInformation, __func__);
 }
 
-/* ---- Beside the bytes. A list of names of extended attributes isn't looked at: all come. */
+/* ---- Beside the bytes. */
+static KzAsked ea_query(ULONG room, BOOLEAN is_single, PVOID list, ULONG list_length, PULONG index, BOOLEAN is_restart)
+{
+    UCHAR flags = (UCHAR)((is_single ? SL_RETURN_SINGLE_ENTRY : 0) | (is_restart ? SL_RESTART_SCAN : 0) | (index ? SL_INDEX_SPECIFIED : 0));
+    return (KzAsked){.major = IRP_MJ_QUERY_EA, .flags = flags, .room = room, .irp_flags = IRP_BUFFERED_IO, .input = list, .input_size = list ? list_length : 0, .from = index ? *index : 0};
+}
+
 NTSTATUS FltQueryEaFile(PFLT_INSTANCE Instance, PFILE_OBJECT FileObject, PVOID ReturnedEaData, ULONG Length, BOOLEAN ReturnSingleEntry, PVOID EaList, ULONG EaListLength,
                         PULONG EaIndex, BOOLEAN RestartScan, PULONG LengthReturned)
 {
     KZ_CALL();
-    (void)ReturnSingleEntry, (void)EaList, (void)EaListLength, (void)EaIndex, (void)RestartScan;
-    return ask(Instance, FileObject, &(KzAsked){.major = IRP_MJ_QUERY_EA, .room = Length, .irp_flags = IRP_BUFFERED_IO}, ReturnedEaData, LengthReturned, __func__);
+    KzAsked asked = ea_query(Length, ReturnSingleEntry, EaList, EaListLength, EaIndex, RestartScan);
+    return ask(Instance, FileObject, &asked, ReturnedEaData, LengthReturned, __func__);
 }
 
 NTSTATUS FltSetEaFile(PFLT_INSTANCE Instance, PFILE_OBJECT FileObject, PVOID EaBuffer, ULONG Length)
@@ -143,8 +149,8 @@ NTSTATUS FltSetEaFile(PFLT_INSTANCE Instance, PFILE_OBJECT FileObject, PVOID EaB
 NTSTATUS ZwQueryEaFile(HANDLE FileHandle, PIO_STATUS_BLOCK IoStatusBlock, PVOID Buffer, ULONG Length, BOOLEAN ReturnSingleEntry, PVOID EaList, ULONG EaListLength, PULONG EaIndex, BOOLEAN RestartScan)
 {
     KZ_CALL();
-    (void)ReturnSingleEntry, (void)EaList, (void)EaListLength, (void)EaIndex, (void)RestartScan;
-    NTSTATUS status = ask_by_handle(FileHandle, IoStatusBlock, &(KzAsked){.major = IRP_MJ_QUERY_EA, .room = Length, .irp_flags = IRP_BUFFERED_IO}, Buffer, __func__);
+    KzAsked asked = ea_query(Length, ReturnSingleEntry, EaList, EaListLength, EaIndex, RestartScan);
+    NTSTATUS status = ask_by_handle(FileHandle, IoStatusBlock, &asked, Buffer, __func__);
     if (status == STATUS_NO_EAS_ON_FILE && Buffer) /* the file system clears the caller's room first */
         memset(Buffer, 0, Length);
     return status;
@@ -254,6 +260,9 @@ static PVOID asked_of_beside(const FLT_IO_PARAMETER_BLOCK *iopb, KzAsked *asked)
     switch (iopb->MajorFunction) {
     case IRP_MJ_QUERY_EA:
         asked->room = now->QueryEa.Length;
+        asked->input = now->QueryEa.EaList;
+        asked->input_size = now->QueryEa.EaList ? now->QueryEa.EaListLength : 0;
+        asked->from = now->QueryEa.EaIndex;
         return now->QueryEa.EaBuffer;
     case IRP_MJ_SET_EA:
         asked->input = now->SetEa.EaBuffer;

@@ -20,6 +20,7 @@
 #include "filesystem/tree.h"
 #include "manager/below.h"
 #include "manager/breaks.h"
+#include "manager/bypass.h"
 #include "manager/operation.h"
 #include "manager/opaque.h"
 #include "manager/paging.h"
@@ -184,7 +185,9 @@ static NTSTATUS answer_zeros(KzOp *op)
 
 static bool call_opaque(KzOp *op)
 {
-    NTSTATUS status = is_of_zeros(op) ? answer_zeros(op) : kz_answer_opaque(op);
+    NTSTATUS status;
+    if (!kz_manages_bypass(op, &status))
+        status = is_of_zeros(op) ? answer_zeros(op) : kz_answer_opaque(op);
     if (status != STATUS_PENDING) {
         answer(op, status, NULL, 0);
         return true;

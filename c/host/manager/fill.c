@@ -105,6 +105,9 @@ static void fill_beside(KzOp *op, const KzAsked *asked, FLT_PARAMETERS *now)
     case IRP_MJ_QUERY_EA:
         now->QueryEa.Length = (ULONG)asked->room;
         now->QueryEa.EaBuffer = output(op, asked);
+        now->QueryEa.EaList = asked->input_size ? input(op, asked) : NULL;
+        now->QueryEa.EaListLength = (ULONG)asked->input_size;
+        now->QueryEa.EaIndex = (ULONG)asked->from;
         break;
     case IRP_MJ_SET_EA:
         now->SetEa.Length = (ULONG)asked->input_size;

@@ -331,7 +331,7 @@ static void free_ops(void)
         kz_let_go_name(file->name);
         if (kz_piece_of(file->object.FileName.Buffer))
             kz_give_back(file->object.FileName.Buffer);
-        free(file);
+        kz_free_file(file);
     }
 }
 

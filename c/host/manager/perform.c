@@ -1,4 +1,5 @@
 /* Requests, from their beginning to their reply; and what goes on behind them: operations that were let go, closes that are due, what waits for its turn. */
+#include "manager/bypass.h"
 #include "manager/perform.h"
 
 #include "cache/cache.h"
@@ -344,6 +345,7 @@ static KzAnswer begin(const KzBegin *begun)
     NTSTATUS wrong = kz_put_target(NULL, file, &asked.opaque, &renames);
     if (!NT_SUCCESS(wrong))
         return kz_refused(wrong);
+    asked.event.kind = kz_is_bypassed(file, &asked.event) ? KZB_BASE : KZB_TOP;
     KzName *name = name_of(&asked);
     KzTold told = kz_event_with(kz_worker(), asked.event, asked.bytes, asked.length);
     if (told.status != KZS_OK) {

@@ -203,6 +203,19 @@ static void add_volume(Text *text, int class, const void *from)
     }
 }
 
+static void add_bypass(Text *text, const FS_BPIO_OUTPUT *said)
+{
+    if (said->Operation == FS_BPIO_OP_GET_INFO) {
+        add(text, "files %u", said->GetInfo.ActiveBypassIoCount);
+        return;
+    }
+    add(text, "bypass 0x%08x", (unsigned)said->Enable.OpStatus);
+    add(text, said->Enable.FailingDriverNameLen ? " by " : "");
+    add_wide(text, said->Enable.FailingDriverName, said->Enable.FailingDriverNameLen);
+    add(text, said->Enable.FailureReasonLen ? ": " : "");
+    add_wide(text, said->Enable.FailureReason, said->Enable.FailureReasonLen);
+}
+
 void kz_say_answer(const KzOpaque *opaque, size_t length)
 {
     Text text = {kz_me->says, sizeof kz_me->says, 0};
@@ -212,6 +225,10 @@ void kz_say_answer(const KzOpaque *opaque, size_t length)
     switch (opaque->major) {
     case IRP_MJ_QUERY_INFORMATION:
         add_file(&text, opaque->now.QueryFileInformation.FileInformationClass, opaque->output, length);
+        break;
+    case IRP_MJ_FILE_SYSTEM_CONTROL:
+        if (opaque->now.FileSystemControl.Common.FsControlCode == FSCTL_MANAGE_BYPASS_IO && length >= sizeof(FS_BPIO_OUTPUT))
+            add_bypass(&text, (const void *)opaque->output);
         break;
     case IRP_MJ_NETWORK_QUERY_OPEN:
         add_network(&text, (const void *)opaque->output);

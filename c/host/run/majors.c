@@ -270,18 +270,27 @@ static KzReply ask_set_label(char **words)
     return on_handle(words[1], &(KzAsked){.major = IRP_MJ_SET_VOLUME_INFORMATION, .code = FileFsLabelInformation, .input = &asked, .input_size = length, .irp_flags = BUFFERED});
 }
 
-/* ---- Beside the bytes: `queryea H`, `setea H NAME HEX`, `querysecurity H`, `setsecurity H HEX`, `queryquota H`, `setquota H HEX`. */
+/* ---- Beside the bytes: `queryea H [next] [one]`, `setea H NAME HEX|-`, `querysecurity H`, `setsecurity H HEX`, `queryquota H`, `setquota H HEX`. */
+/* `next` goes on after the last one that the handle was answered, `one` takes no more than one of them. */
 static KzReply ask_query_ea(char **words)
 {
-    return on_handle(words[1], &(KzAsked){.major = IRP_MJ_QUERY_EA, .room = 2048, .irp_flags = BUFFERED});
+    UCHAR flags = SL_RESTART_SCAN;
+    for (char **word = words + 2; *word; word++) {
+        bool is_next = strcmp(*word, "next") == 0;
+        if (!is_next && strcmp(*word, "one") != 0)
+            return kz_wrong();
+        flags = (UCHAR)(is_next ? flags & ~SL_RESTART_SCAN : flags | SL_RETURN_SINGLE_ENTRY);
+    }
+    return on_handle(words[1], &(KzAsked){.major = IRP_MJ_QUERY_EA, .flags = flags, .room = 2048, .irp_flags = BUFFERED});
 }
 
 static KzReply ask_set_ea(char **words)
 {
     uint8_t *bytes = kz_me->bytes;
     const size_t head = offsetof(FILE_FULL_EA_INFORMATION, EaName), name = strlen(words[2]);
-    size_t length;
-    if (name > 200 || !kz_read_hex(words[3], bytes + head + name + 1, &length) || length > 1024)
+    size_t length = 0;
+    bool is_none = strcmp(words[3], "-") == 0;
+    if (name > 200 || (!is_none && !kz_read_hex(words[3], bytes + head + name + 1, &length)) || length > 1024)
         return kz_wrong();
     FILE_FULL_EA_INFORMATION one = {.EaNameLength = (UCHAR)name, .EaValueLength = (USHORT)length};
     memcpy(bytes, &one, head);
@@ -365,6 +374,21 @@ static KzReply control(char **words, UCHAR major)
 static KzReply ask_fsctl(char **words)
 {
     return control(words, IRP_MJ_FILE_SYSTEM_CONTROL);
+}
+
+/* ---- `bypass H enable`, also `disable`, `query`, `info` */
+static KzReply ask_bypass(char **words)
+{
+    static const struct {
+        const char *word;
+        FS_BPIO_OPERATIONS operation;
+    } rows[] = {{"enable", FS_BPIO_OP_ENABLE}, {"disable", FS_BPIO_OP_DISABLE}, {"query", FS_BPIO_OP_QUERY}, {"info", FS_BPIO_OP_GET_INFO}};
+    for (size_t at = 0; at < sizeof rows / sizeof *rows; at++)
+        if (strcmp(words[2], rows[at].word) == 0) {
+            const FS_BPIO_INPUT asked = {.Operation = rows[at].operation};
+            return on_handle(words[1], &(KzAsked){.major = IRP_MJ_FILE_SYSTEM_CONTROL, .code = FSCTL_MANAGE_BYPASS_IO, .input = &asked, .input_size = sizeof asked, .room = sizeof(FS_BPIO_OUTPUT)});
+        }
+    return kz_wrong();
 }
 
 static KzReply ask_ioctl(char **words)
@@ -487,7 +511,7 @@ const KzRequest kz_major_requests[] = {
     {"watch", 2, 3, ask_watch, true},
     {"queryvolume", 3, 3, ask_query_volume, true},
     {"setlabel", 3, 3, ask_set_label, true},
-    {"queryea", 2, 2, ask_query_ea, true},
+    {"queryea", 2, 4, ask_query_ea, true},
     {"setea", 4, 4, ask_set_ea, true},
     {"querysecurity", 2, 2, ask_query_security, true},
     {"setsecurity", 3, 3, ask_set_security, true},
@@ -497,6 +521,7 @@ const KzRequest kz_major_requests[] = {
     {"unlock", 4, 4, ask_unlock, true},
     {"unlockall", 2, 2, ask_unlock_all, true},
     {"fsctl", 3, 5, ask_fsctl, true},
+    {"bypass", 3, 3, ask_bypass, true},
     {"ioctl", 3, 5, ask_ioctl, true},
     {"internal", 3, 5, ask_internal, true},
     {"shutdown", 2, 2, ask_shutdown, false},

@@ -6,14 +6,21 @@
 #include "core/told.h"
 #include "filesystem/tree.h"
 #include "lib/letters.h"
-#include "manager/instance.h"
+
+static bool is_attached(PFLT_INSTANCE instance)
+{
+    KazdrinTold told = {0};
+    kz_scheduler->uses(&instance->torn_down_by, KZU_READS);
+    kazdrin_phase(&kz.manager, &(KazdrinEvent){.mode = KZP_OF_INSTANCE, .instance = instance->id}, &told);
+    return told.has && told.number == KZP_INSTANCE_ATTACHED;
+}
 
 /* One that is attached, and whose SupportedFeatures don't have it. */
 static PFLT_FILTER blocker(PFLT_VOLUME volume)
 {
     for (size_t at = 0; at < kz.instances_count; at++) {
         PFLT_INSTANCE one = kz.instances[at];
-        if (one->volume == volume && !(one->filter->features & SUPPORTED_FS_FEATURES_BYPASS_IO) && kz_phase(one) == KZP_INSTANCE_ATTACHED)
+        if (one->volume == volume && !(one->filter->features & SUPPORTED_FS_FEATURES_BYPASS_IO) && is_attached(one))
             return one->filter;
     }
     return NULL;

@@ -2,4 +2,5 @@ mod Words
 mod Outs
 mod Idling
 mod Seen
+mod Running
 mod AnswerKinds

@@ -4,4 +4,5 @@ pub mod Hired
 pub mod Events
 pub mod Lending
 pub mod Replies
+pub mod Runs
 pub mod Turns

@@ -3,6 +3,7 @@ use Rattle.std.specs.Prelude.{◌≡◌, ◌+◌, ◌<◌, ℕ, Bool, List, Opti
 use Rattle.fm_types.specs.declared.ids.WorkerId.{WorkerId}
 use Rattle.fm_world.specs.World.{World}
 use Rattle.fm_world.specs.Hands.{hand_len, worker_pairs}
+use Rattle.fm_lock.specs.Runs.{IsRun}
 
 -- a worker, and how many references it holds
 pub record HandView : Type 0 where
@@ -21,8 +22,10 @@ pub record IsHand (h : HandView) (parts amount : ℕ) : Type 0 where
   pub holds : amount ≡ h.held
   pub worker : h.worker.0 < 48
 
--- the book is the number of references that workers hold; one part stays in the lock, and so does that of each hand that isn't out
+-- the state is where a run of events leads; the book is the number of references that workers hold; one part stays in the lock, and so does that of each hand
+-- that isn't out
 pub record IsLocked (w : World) (hired : List Bool) (total parts amount : ℕ) : Type 0 where
+  pub run : IsRun w
   pub book : total ≡ worker_pairs w
   pub none : amount ≡ 0
   pub shares : parts + count_by (λ is_out. is_out) hired ≡ 49

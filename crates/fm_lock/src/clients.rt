@@ -1,6 +1,9 @@
 //! What clients wait for: the answers of their operations, and turns that are theirs alone. And which threads are no clients, but take jobs.
 
 ghost use Rattle.std.specs.Prelude.{◌≡◌, IfErr};
+ghost use Rattle.fm_lock.specs.Runs.{IsMade, IsTaken, IsTakenIn};
+ghost use Rattle.fm_world.specs.declared.step.Step.TheVariants as step;
+ghost use Rattle.fm_world.specs.declared.step.StepReply.TheVariants as reply;
 
 use crate::hand::Hand;
 use crate::manager::Manager;
@@ -25,7 +28,8 @@ impl<F: Drop, L: Ledger> Manager<F, L> {
     /// Waits until an operation is done, and takes its answer. Refused with 30, if the operation isn't there or its answer was handed out. It waits for ever
     /// for one that nobody carries on.
     pub fn wait_reply<R: Wait>(&self, rt: &R, operation: OpId) -> Result<Answer, Status>
-        ensures { IfErr result (λ status. status ≡ Status.WrongStep) }
+        ensures refused { IfErr result (λ status. status ≡ Status.WrongStep) }
+        ensures run { IsMade (step.Collect operation) (reply.Answer result) }
     {
         self.waiting.enter(operation);
         let answer = self.collect(rt, operation);
@@ -35,7 +39,8 @@ impl<F: Drop, L: Ledger> Manager<F, L> {
 
     // Sleeps at the operation's place until it is done, and takes its answer.
     fn collect<R: Wait>(&self, rt: &R, operation: OpId) -> Result<Answer, Status>
-        ensures { IfErr result (λ status. status ≡ Status.WrongStep) }
+        ensures refused { IfErr result (λ status. status ≡ Status.WrongStep) }
+        ensures run { IsMade (step.Collect operation) (reply.Answer result) }
     {
         let changed = &self.waiting.place(operation).changed;
         let mut locked = changed.wait_while(
@@ -54,7 +59,8 @@ impl<F: Drop, L: Ledger> Manager<F, L> {
         hand: &Hand<L>,
         operation: OpId,
     ) -> Result<Option<Answer>, Status>
-        ensures { IfErr result (λ status. status ≡ Status.WrongStep) }
+        ensures refused { IfErr result (λ status. status ≡ Status.WrongStep) }
+        ensures run { IsTaken operation result }
     {
         self.waiting.enter(operation);
         let answer = self.collect_unless_turn(rt, hand.worker(), operation);
@@ -69,7 +75,8 @@ impl<F: Drop, L: Ledger> Manager<F, L> {
         worker: WorkerId,
         operation: OpId,
     ) -> Result<Option<Answer>, Status>
-        ensures { IfErr result (λ status. status ≡ Status.WrongStep) }
+        ensures refused { IfErr result (λ status. status ≡ Status.WrongStep) }
+        ensures run { IsTaken operation result }
     {
         let changed = &self.waiting.place(operation).changed;
         let mut locked = changed.wait_while(rt, self.locked(rt), |locked| {
@@ -93,7 +100,8 @@ impl<F: Drop, L: Ledger> Manager<F, L> {
         operation: OpId,
         time: Duration,
     ) -> Result<Waited, Status>
-        ensures { IfErr result (λ status. status ≡ Status.WrongStep) }
+        ensures refused { IfErr result (λ status. status ≡ Status.WrongStep) }
+        ensures run { IsTakenIn operation result }
     {
         if time.is_zero() {
             return self.collect_within(rt, hand.worker(), operation, time);
@@ -112,7 +120,8 @@ impl<F: Drop, L: Ledger> Manager<F, L> {
         operation: OpId,
         time: Duration,
     ) -> Result<Waited, Status>
-        ensures { IfErr result (λ status. status ≡ Status.WrongStep) }
+        ensures refused { IfErr result (λ status. status ≡ Status.WrongStep) }
+        ensures run { IsTakenIn operation result }
     {
         let changed = &self.waiting.place(operation).changed;
         let (mut locked, waited) = changed.wait_timeout_while(

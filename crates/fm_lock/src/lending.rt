@@ -1,10 +1,14 @@
 //! The events that lend data out, hand it back or are lent some, by the manager.
 
-ghost use Rattle.std.specs.Prelude.{◌≡◌, IfErr};
+ghost use Rattle.std.specs.Prelude.{◌≡◌, Err, IfErr};
 ghost use Rattle.fm_core.specs.Returned.{status_of};
 ghost use Rattle.fm_world.specs.Hands.{given_by_next};
 ghost use Rattle.fm_world.specs.StepHands.{More, Nothing};
+ghost use Rattle.fm_world.specs.declared.step.Step.TheVariants as step;
+ghost use Rattle.fm_world.specs.declared.step.StepReply.TheVariants as reply;
 ghost use Rattle.fm_lock.specs.Events.{Holding};
+ghost use Rattle.fm_lock.specs.Lending.{wrong};
+ghost use Rattle.fm_lock.specs.Runs.{IsMadeOr};
 
 use crate::hand::Hand;
 use crate::manager::Manager;
@@ -24,7 +28,8 @@ impl<F: Drop, L: Ledger> Manager<F, L> {
         hand: &mut Hand<L>,
         operation: OpId,
     ) -> Result<FlowAction, Status>
-        ensures { Holding (More result given_by_next) hand.old hand.new }
+        ensures held { Holding (More result given_by_next) hand.old hand.new }
+        ensures run { IsMadeOr (Err Status.WrongStep) (step.Next hand.old.worker operation) (reply.Action result) result }
     {
         self.turn(rt, hand, operation).action
     }
@@ -38,6 +43,7 @@ impl<F: Drop, L: Ledger> Manager<F, L> {
         lent: CallbackData,
     ) -> Result<(), Refused<CallbackData>>
         ensures held { Holding (Nothing (status_of result)) hand.old hand.new }
+        ensures run { IsMadeOr (wrong lent) (step.PreReturned hand.old.worker verdict lent) (reply.Done (status_of result)) result }
         ensures back { IfErr result (λ refused. refused.handed_back ≡ lent) }
     {
         self.locked(rt).pre_returned(hand, verdict, lent)
@@ -52,6 +58,7 @@ impl<F: Drop, L: Ledger> Manager<F, L> {
         given: Answer,
     ) -> Result<(), Refused<(BaseCall, Answer)>>
         ensures held { hand.new ≡ hand.old }
+        ensures run { IsMadeOr (wrong (call, given)) (step.BaseReturned hand.old.worker call given) (reply.Done (status_of result)) result }
         ensures back { IfErr result (λ refused. refused.handed_back ≡ (call, given)) }
     {
         self.locked(rt).base_returned(hand, call, given)
@@ -67,6 +74,7 @@ impl<F: Drop, L: Ledger> Manager<F, L> {
         lent: Option<CallbackData>,
     ) -> Result<(), Refused<Option<CallbackData>>>
         ensures held { Holding (Nothing (status_of result)) hand.old hand.new }
+        ensures run { IsMadeOr (wrong lent) (step.PostReturned hand.old.worker verdict lent) (reply.Done (status_of result)) result }
         ensures back { IfErr result (λ refused. refused.handed_back ≡ lent) }
     {
         self.locked(rt).post_returned(hand, verdict, lent)
@@ -81,7 +89,8 @@ impl<F: Drop, L: Ledger> Manager<F, L> {
         context: CtxId,
         bytes: &[u8],
     ) -> Result<(), Status>
-        ensures { hand.new ≡ hand.old }
+        ensures held { hand.new ≡ hand.old }
+        ensures run { IsMadeOr (Err Status.WrongStep) (step.WriteBody hand.old.worker context bytes.now) (reply.Done result) result }
     {
         self.locked(rt).write_body(hand, context, bytes)
     }

@@ -5,8 +5,11 @@ ghost use Rattle.fm_operations.specs.Steps.{is_done};
 ghost use Rattle.fm_operations.specs.Table.{operation_at};
 ghost use Rattle.fm_world.specs.World.{empty_world};
 ghost use Rattle.fm_world.specs.Dismounts.{StartsDismount};
+ghost use Rattle.fm_world.specs.declared.step.Step.TheVariants as made;
+ghost use Rattle.fm_world.specs.declared.step.StepReply.TheVariants as reply;
 ghost use Rattle.fm_world.specs.Events.{Collects, Registers, sync_worker};
 ghost use Rattle.fm_lock.specs.Events.{EventAlone, EventBy, KeepsHired, is_by, has_own_call};
+ghost use Rattle.fm_lock.specs.Runs.{IsAnswered, IsMade};
 ghost use Rattle.fm_lock.specs.Turns.{place_of};
 ghost use Rattle.fm_lock.specs.Views.{HandView};
 ghost use Rattle.fm_lock.specs.Blanks.{IsBlankOf};
@@ -62,6 +65,7 @@ fn has_own_call(step: &Step) -> bool
 impl<L: Ledger> Locked<L> {
     /// Before the first event: all hands are in. The blank is this ledger's own, in 49 parts: one for each worker, and one that stays. Refused with 1 alone,
     /// if memory is refused for the state.
+    #[tactic(auto, using(crate::proofs::Running::begins))]
     pub fn new(alloc: Global, blank: Blank) -> Result<Locked<L>, Status>
         requires blank { IsBlankOf blank.name blank.parts L.name L.parts }
         ensures empty { IfOk result (λ locked. locked ≡ record { world = empty_world; hired = replicate 48 false; loaded = replicate 16 None }) }
@@ -87,8 +91,10 @@ impl<L: Ledger> Locked<L> {
 
     /// Makes an event that names a worker, by that worker's hand. It answers as the State does. Refused with 30 before the event, nothing changed and the
     /// event handed back: if it names no worker or another one, or the hand's number isn't the State's.
+    #[tactic(auto, using(crate::proofs::Running::goes_on, crate::proofs::Running::event_answered))]
     pub fn step(&mut self, hand: &mut Hand<L>, step: Step) -> Result<StepReply, Refused<Step>>
-        ensures { EventBy step self.old hand.old result self.new hand.new }
+        ensures event { EventBy step self.old hand.old result self.new hand.new }
+        ensures run { IsAnswered step result }
     {
         let worker = hand.worker();
         if !is_by(worker, step.worker()) || self.state.hand_len(worker) as u64 != hand.held() {
@@ -104,9 +110,10 @@ impl<L: Ledger> Locked<L> {
 
     /// Makes an event that names no worker. It answers as the State does. Refused with 30 before the event, nothing changed and the event handed back: if
     /// it names one, or registers a filter or begins a dismount, which `register` and `start_dismount` do.
-    #[tactic(auto, using(fm_world::proofs::Handing::keeps_pairs))]
+    #[tactic(auto, using(fm_world::proofs::Handing::keeps_pairs, crate::proofs::Running::goes_on, crate::proofs::Running::alone_answered))]
     pub fn step_alone(&mut self, step: Step) -> Result<StepReply, Refused<Step>>
-        ensures { EventAlone step self.old result self.new }
+        ensures event { EventAlone step self.old result self.new }
+        ensures run { IsAnswered step result }
     {
         if step.worker().is_some() || has_own_call(&step) {
             return Err(Refused {
@@ -118,7 +125,7 @@ impl<L: Ledger> Locked<L> {
     }
 
     /// Registers a filter that was handed in at that place, and notes that its number stands for it. It answers as the State's `register` does.
-    #[tactic(auto, using(fm_world::proofs::Handing::keeps_pairs))]
+    #[tactic(auto, using(fm_world::proofs::Handing::keeps_pairs, crate::proofs::Running::after_register, crate::proofs::Running::register_made))]
     pub fn register(
         &mut self,
         name: Name,
@@ -126,6 +133,7 @@ impl<L: Ledger> Locked<L> {
         place: usize,
     ) -> Result<FilterId, Status>
         ensures event { Registers self.old.world name registration result self.new.world }
+        ensures run { IsMade (made.Register name registration) (reply.Filter result) }
         ensures hired { self.new.hired ≡ self.old.hired }
         ensures loaded { MatchResult result (λ f. self.new.loaded ≡ slice_set self.old.loaded f.0 (Some place)) (λ status. self.new.loaded ≡ self.old.loaded) }
     {
@@ -138,9 +146,10 @@ impl<L: Ledger> Locked<L> {
     }
 
     /// The dismount of a volume begins, which a look at a rundown gate found drained. It answers as the State does: 7, 33, 34.
-    #[tactic(auto, using(fm_world::proofs::Handing::keeps_pairs))]
+    #[tactic(auto, using(fm_world::proofs::Handing::keeps_pairs, crate::proofs::Running::after_dismount, crate::proofs::Running::dismount_made))]
     pub fn start_dismount(&mut self, seen: Seen) -> Result<(), Status>
         ensures event { StartsDismount self.old.world seen.volume result self.new.world }
+        ensures run { IsMade (made.StartDismount seen.volume) (reply.Done result) }
         ensures kept { KeepsHired self.old self.new }
     {
         self.state.start_dismount(seen.volume())
@@ -169,9 +178,10 @@ impl<L: Ledger> Locked<L> {
 
     /// Takes the answer of an operation. It answers as the State does: refused with 30, nothing changed, if the operation isn't there, isn't done, or its
     /// answer was handed out.
-    #[tactic(auto, using(fm_world::proofs::Handing::keeps_pairs, crate::proofs::Seen::collect_refused))]
+    #[tactic(auto, using(fm_world::proofs::Handing::keeps_pairs, crate::proofs::Seen::collect_refused, crate::proofs::Running::after_collect, crate::proofs::Running::collect_made))]
     pub fn collect(&mut self, operation: OpId) -> Result<Answer, Status>
         ensures event { Collects self.old.world operation result self.new.world }
+        ensures run { IsMade (made.Collect operation) (reply.Answer result) }
         ensures refused { IfErr result (λ status. status ≡ Status.WrongStep) }
         ensures kept { KeepsHired self.old self.new }
     {

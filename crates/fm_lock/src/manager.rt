@@ -7,6 +7,7 @@ ghost use Rattle.fm_world.specs.Hands.{worker_pairs};
 ghost use Rattle.fm_ctx.specs.Counting.{born, cleaned_count};
 ghost use Rattle.fm_lock.specs.Events.{HandAfter};
 ghost use Rattle.fm_lock.specs.Hired.{place_called};
+ghost use Rattle.fm_lock.specs.Runs.{IsAnswered, IsRegistered};
 ghost use Rattle.fm_lock.specs.Views.{held_by};
 ghost use Rattle.fm_lock.specs.Blanks.{IsBlankOf};
 
@@ -101,7 +102,8 @@ impl<F: Drop, L: Ledger> Manager<F, L> {
         hand: &mut Hand<L>,
         step: Step,
     ) -> Result<StepReply, Refused<Step>>
-        ensures { HandAfter step hand.old result hand.new }
+        ensures held { HandAfter step hand.old result hand.new }
+        ensures run { IsAnswered step result }
     {
         let asked = asks_next(&step);
         let result = self.locked(rt).step(hand, step);
@@ -117,7 +119,8 @@ impl<F: Drop, L: Ledger> Manager<F, L> {
     /// and a dismount begins by `start_dismount` alone.
     #[tactic(auto, using(crate::proofs::Seen::alone_seen))]
     pub fn step_alone<R: Wait>(&self, rt: &R, step: Step) -> Result<StepReply, Refused<Step>>
-        ensures { IfErr result (λ refused. refused ≡ record { status = Status.WrongStep; handed_back = step }) }
+        ensures refused { IfErr result (λ refused. refused ≡ record { status = Status.WrongStep; handed_back = step }) }
+        ensures run { IsAnswered step result }
     {
         self.locked(rt).step_alone(step)
     }
@@ -205,7 +208,8 @@ impl<F: Callbacks, L: Ledger> Manager<F, L> {
     /// Registers the filter of that name (`FltRegisterFilter`), for what it asks. Refused with 6 if none was handed in under that name, and then as the State's
     /// `register`: 10 where one of that name isn't unloaded, 29, 1.
     pub fn register<R: Wait>(&self, rt: &R, name: &Name) -> Result<FilterId, Status>
-        ensures { place_called name.now self.now.filters.items ≡ None → result ≡ Err Status.NoFilter }
+        ensures none { place_called name.now self.now.filters.items ≡ None → result ≡ Err Status.NoFilter }
+        ensures run { IsRegistered name.now result }
     {
         let Some(place) = self.place_called(name) else {
             return Err(Status::NoFilter);

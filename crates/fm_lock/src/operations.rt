@@ -1,11 +1,14 @@
 //! The events that lend data out, hand it back or are lent some: by the hand of their worker, with what a refusal hands back.
 
-ghost use Rattle.std.specs.Prelude.{◌≡◌, IfErr};
+ghost use Rattle.std.specs.Prelude.{◌≡◌, Err, IfErr};
 ghost use Rattle.fm_core.specs.Returned.{status_of};
 ghost use Rattle.fm_world.specs.Hands.{given_by_next};
 ghost use Rattle.fm_world.specs.StepHands.{More, Nothing};
+ghost use Rattle.fm_world.specs.declared.step.Step.TheVariants as step;
+ghost use Rattle.fm_world.specs.declared.step.StepReply.TheVariants as reply;
 ghost use Rattle.fm_lock.specs.Events.{Holding};
-ghost use Rattle.fm_lock.specs.Lending.{BaseReturnsBy, NextsBy, PostReturnsBy, PreReturnsBy, WritesBodyBy};
+ghost use Rattle.fm_lock.specs.Lending.{BaseReturnsBy, NextsBy, PostReturnsBy, PreReturnsBy, WritesBodyBy, wrong};
+ghost use Rattle.fm_lock.specs.Runs.{IsMadeOr};
 
 use crate::hand::Hand;
 use crate::locked::Locked;
@@ -18,8 +21,10 @@ use std::sync::ledger::Ledger;
 impl<L: Ledger> Locked<L> {
     /// What the hand's worker has to do next for an operation, as the State's `next`. Refused with 30 before the event, nothing changed, if the hand's number
     /// isn't the State's.
+    #[tactic(auto, using(crate::proofs::Running::after_next, crate::proofs::Running::next_made))]
     pub fn next(&mut self, hand: &mut Hand<L>, operation: OpId) -> Result<FlowAction, Status>
         ensures event { NextsBy operation self.old hand.old result self.new hand.new }
+        ensures run { IsMadeOr (Err Status.WrongStep) (step.Next hand.old.worker operation) (reply.Action result) result }
         ensures held { Holding (More result given_by_next) hand.old hand.new }
     {
         let worker = hand.worker();
@@ -33,6 +38,7 @@ impl<L: Ledger> Locked<L> {
 
     /// The preoperation callback that the hand's worker is in returns, as the State's `pre_returned`. Refused with 30 before the event, nothing changed and
     /// the data handed back, if the hand's number isn't the State's.
+    #[tactic(auto, using(crate::proofs::Running::after_pre, crate::proofs::Running::pre_made))]
     pub fn pre_returned(
         &mut self,
         hand: &mut Hand<L>,
@@ -40,6 +46,7 @@ impl<L: Ledger> Locked<L> {
         lent: CallbackData,
     ) -> Result<(), Refused<CallbackData>>
         ensures event { PreReturnsBy verdict lent self.old hand.old result self.new hand.new }
+        ensures run { IsMadeOr (wrong lent) (step.PreReturned hand.old.worker verdict lent) (reply.Done (status_of result)) result }
         ensures held { Holding (Nothing (status_of result)) hand.old hand.new }
         ensures back { IfErr result (λ refused. refused.handed_back ≡ lent) }
     {
@@ -57,7 +64,7 @@ impl<L: Ledger> Locked<L> {
 
     /// The base call that the hand's worker is in returns, as the State's `base_returned`. Refused with 30 before the event, nothing changed and both handed
     /// back, if the hand's number isn't the State's.
-    #[tactic(auto, using(fm_world::proofs::Handing::keeps_held))]
+    #[tactic(auto, using(fm_world::proofs::Handing::keeps_held, crate::proofs::Running::after_base, crate::proofs::Running::base_made))]
     pub fn base_returned(
         &mut self,
         hand: &mut Hand<L>,
@@ -65,6 +72,7 @@ impl<L: Ledger> Locked<L> {
         given: Answer,
     ) -> Result<(), Refused<(BaseCall, Answer)>>
         ensures event { BaseReturnsBy call given self.old hand.old result self.new hand.new }
+        ensures run { IsMadeOr (wrong (call, given)) (step.BaseReturned hand.old.worker call given) (reply.Done (status_of result)) result }
         ensures held { hand.new ≡ hand.old }
         ensures back { IfErr result (λ refused. refused.handed_back ≡ (call, given)) }
     {
@@ -82,6 +90,7 @@ impl<L: Ledger> Locked<L> {
 
     /// The postoperation callback or the drain that the hand's worker is in returns, as the State's `post_returned`. Refused with 30 before the event, nothing
     /// changed and the data handed back, if the hand's number isn't the State's.
+    #[tactic(auto, using(crate::proofs::Running::after_post, crate::proofs::Running::post_made))]
     pub fn post_returned(
         &mut self,
         hand: &mut Hand<L>,
@@ -89,6 +98,7 @@ impl<L: Ledger> Locked<L> {
         lent: Option<CallbackData>,
     ) -> Result<(), Refused<Option<CallbackData>>>
         ensures event { PostReturnsBy verdict lent self.old hand.old result self.new hand.new }
+        ensures run { IsMadeOr (wrong lent) (step.PostReturned hand.old.worker verdict lent) (reply.Done (status_of result)) result }
         ensures held { Holding (Nothing (status_of result)) hand.old hand.new }
         ensures back { IfErr result (λ refused. refused.handed_back ≡ lent) }
     {
@@ -106,7 +116,7 @@ impl<L: Ledger> Locked<L> {
 
     /// Replaces the bytes of a context that the hand's worker has, as the State's `write_body`; it takes no memory. Refused with 30 before the event, nothing
     /// changed, if the hand's number isn't the State's.
-    #[tactic(auto, using(fm_world::proofs::Handing::keeps_held))]
+    #[tactic(auto, using(fm_world::proofs::Handing::keeps_held, crate::proofs::Running::after_write, crate::proofs::Running::write_made))]
     pub fn write_body(
         &mut self,
         hand: &mut Hand<L>,
@@ -114,6 +124,7 @@ impl<L: Ledger> Locked<L> {
         bytes: &[u8],
     ) -> Result<(), Status>
         ensures event { WritesBodyBy context bytes.now self.old hand.old result self.new hand.new }
+        ensures run { IsMadeOr (Err Status.WrongStep) (step.WriteBody hand.old.worker context bytes.now) (reply.Done result) result }
         ensures held { hand.new ≡ hand.old }
     {
         let worker = hand.worker();

@@ -1,11 +1,14 @@
 //! An operation's next turn, with all that a worker has to know for it: one event, and what can be read at the same moment.
 
-ghost use Rattle.std.specs.Prelude.{◌≡◌, None, MatchResult, length, nat_lt};
+ghost use Rattle.std.specs.Prelude.{◌≡◌, Err, None, MatchResult, length, nat_lt};
 ghost use Rattle.fm_world.specs.Events.{sync_worker};
 ghost use Rattle.fm_world.specs.Hands.{given_by_next};
 ghost use Rattle.fm_world.specs.StepHands.{More};
+ghost use Rattle.fm_world.specs.declared.step.Step.TheVariants as step;
+ghost use Rattle.fm_world.specs.declared.step.StepReply.TheVariants as reply;
 ghost use Rattle.fm_lock.specs.Events.{Holding};
 ghost use Rattle.fm_lock.specs.Lending.{NextsBy};
+ghost use Rattle.fm_lock.specs.Runs.{IsMadeOr};
 ghost use Rattle.fm_lock.specs.Turns.{called_by, place_called_by, place_of_instance};
 
 use crate::hand::Hand;
@@ -76,6 +79,7 @@ impl<L: Ledger> Locked<L> {
     /// a context is due, and where the operation is refused, whose turn it is.
     pub fn turn(&mut self, hand: &mut Hand<L>, operation: OpId) -> Turn<usize>
         ensures event { NextsBy operation self.old hand.old result.action self.new hand.new }
+        ensures run { IsMadeOr (Err Status.WrongStep) (step.Next hand.old.worker operation) (reply.Action result.action) result.action }
         ensures held { Holding (More result.action given_by_next) hand.old hand.new }
         ensures filter { result.filter ≡ place_called_by self.new result.action }
         ensures bound { MatchResult result.action (λ _. result.bound_to ≡ None) (λ _. result.bound_to ≡ sync_worker self.new.world operation) }
@@ -99,6 +103,7 @@ impl<F: Drop, L: Ledger> Manager<F, L> {
     /// the answer. Who waits for the operation is told if it is done, or is the turn of one that waits.
     pub fn turn<R: Wait>(&self, rt: &R, hand: &mut Hand<L>, operation: OpId) -> Turn<&F>
         ensures held { Holding (More result.action given_by_next) hand.old hand.new }
+        ensures run { IsMadeOr (Err Status.WrongStep) (step.Next hand.old.worker operation) (reply.Action result.action) result.action }
         ensures filter { called_by result.action ≡ None → result.filter ≡ None }
     {
         let turn = self.locked(rt).turn(hand, operation);

@@ -20,7 +20,7 @@ mod text;
 mod verbs;
 mod words;
 
-pub use crate::counted::{counted_for, held_at, stands_at};
+pub use crate::counted::{counted_for, held_at, held_operations, stands_at};
 pub use crate::event::{Event, InstanceVisit, Moment, callback_of, instance_in, operation_in};
 pub use crate::facts::Facts;
 pub use crate::json::{

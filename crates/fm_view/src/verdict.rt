@@ -1,34 +1,29 @@
 //! What is left when a script has ended.
 
 ghost use Rattle.std.specs.Prelude.{◌≡◌};
+ghost use Rattle.fm_report.specs.Counted.{held_in};
 ghost use Rattle.fm_view.specs.Ends.{status_of};
 
 use crate::expect::Expectations;
 use fm_callback_data::PreVerdict;
 use fm_core::{Hold, Phase, Place, State};
 use fm_report::{
-    Event, Facts, Kind, Notes, RunFault, Text, counted_for, fill, held_at, push_count,
-    push_instance, push_place, say_leak, stands_at,
+    Event, Facts, Kind, Notes, RunFault, Text, counted_for, fill, held_at, held_operations,
+    push_count, push_instance, push_place, say_leak, stands_at,
 };
 use fm_script::ScriptEnd;
 use fm_types::{OpId, Status, WorkerId};
 
-/// The exit status of a script that was shown: that of its end. Of one that ended well it is 2 if a line expects what can't be read, else 6 if an expectation
-/// wasn't met, and else 5 if it left a reference behind, or an operation that a filter holds, or if a line gave back or resumed what it didn't have.
-pub fn exit_status(
-    end: ScriptEnd,
-    wrong: u64,
-    unmet: u64,
-    leaks: u64,
-    held: u64,
-    misuses: u64,
-) -> u8
-    ensures { result ≡ status_of end wrong unmet leaks held misuses }
+/// The exit status of a script that was shown, whose end left that state: that of its end. Of one that ended well it is 2 if a line expects what can't be
+/// read, else 6 if an expectation wasn't met, and else 5 if the state has a reference that was left behind, or an operation that a filter holds, or if a line
+/// gave back or resumed what it didn't have.
+pub fn exit_status(end: ScriptEnd, wrong: u64, unmet: u64, misuses: u64, state: &State) -> u8
+    ensures { result ≡ status_of end wrong unmet state.now.contexts.leaks (held_in state.now.flow) misuses }
 {
     match end {
         ScriptEnd::Ended if wrong > 0 => 2,
         ScriptEnd::Ended if unmet > 0 => 6,
-        ScriptEnd::Ended if leaks > 0 || held > 0 || misuses > 0 => 5,
+        ScriptEnd::Ended if state.leaks() > 0 || held_operations(state) > 0 || misuses > 0 => 5,
         other => other.status(),
     }
 }
@@ -41,17 +36,6 @@ pub fn counted_at(state: &State, event: &Event) -> Option<PreVerdict> {
     }
     let stands = stands_at(state, OpId(facts.operation?), facts.instance?)?;
     counted_for(facts.verdict?, stands)
-}
-
-/// How many operations filters hold.
-pub fn held(state: &State) -> u64 {
-    let mut count = 0u64;
-    for number in 0..state.operations_begun() {
-        if held_at(state, OpId(number)).is_some() {
-            count = count.saturating_add(1);
-        }
-    }
-    count
 }
 
 /// Appends what is left.

@@ -1,9 +1,12 @@
 //! How a run ends.
 
-use crate::verdict::{exit_status, fault_of, held, say_end, say_expectations, say_fault};
+ghost use Rattle.std.specs.Prelude.{◌≡◌};
+ghost use Rattle.fm_view.specs.Ends.{IsCounted};
+
+use crate::verdict::{exit_status, fault_of, say_end, say_expectations, say_fault};
 use crate::view::{Shown, View, ViewFormat};
 use fm_page::PAGE_END;
-use fm_report::{Summary, Text};
+use fm_report::{Summary, Text, held_operations};
 use fm_script::{Listener, ScriptEnd};
 use std::io::Write;
 
@@ -36,12 +39,12 @@ impl<W: Write + Drop> View<W> {
     }
 
     // The figures of a run that ended so.
-    pub(super) fn tally(&self, end: ScriptEnd) -> Summary {
+    pub(super) fn tally(&self, end: ScriptEnd) -> Summary
+        ensures { IsCounted end self.now.expectations self.now.interpreter.session.world result }
+    {
         let state = self.interpreter.state();
-        let (leaks, held) = (state.leaks(), held(state));
         let (unmet, misuses) = (self.unmet(), self.expectations.misuses);
-        let wrong = self.expectations.wrong;
-        let status = exit_status(end, wrong, unmet, leaks, held, misuses);
+        let status = exit_status(end, self.expectations.wrong, unmet, misuses, state);
         Summary {
             fault: fault_of(end),
             status: self.expectations.status(status),
@@ -49,8 +52,8 @@ impl<W: Write + Drop> View<W> {
             refused: self.notes.refused(),
             born: state.born(),
             cleaned: state.cleaned_count(),
-            leaks,
-            held,
+            leaks: state.leaks(),
+            held: held_operations(state),
             misuses,
             unmet,
             told: None,

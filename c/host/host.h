@@ -149,6 +149,7 @@ typedef struct {
     struct KzJournalState *journal;
     struct KzKeptState *kept;
     struct KzLabelState *label;
+    struct KzSectorState *sector;
     struct KzLentState *lent;
     struct KzMadeState *made;
     struct KzNameState *name;

@@ -142,6 +142,13 @@ static NTSTATUS read_record(KzOp *op, const Buffers *to)
     return give(op, to, room, length);
 }
 
+static NTSTATUS close_record(KzOp *op, const Buffers *to)
+{
+    const KzName *name = op->file->name;
+    kz_write_close_record(name);
+    return give(op, to, &name->file->usn, sizeof name->file->usn);
+}
+
 static NTSTATUS volume_data(KzOp *op, const Buffers *to)
 {
     PFLT_VOLUME volume = op->volume;
@@ -181,6 +188,8 @@ NTSTATUS kz_control_file(KzOp *op, const FLT_PARAMETERS *now)
         return delete_object_id(op);
     case FSCTL_READ_FILE_USN_DATA:
         return read_record(op, &buffers);
+    case FSCTL_WRITE_USN_CLOSE_RECORD:
+        return op->volume->type == FLT_FSTYPE_NTFS ? close_record(op, &buffers) : STATUS_INVALID_DEVICE_REQUEST;
     default:
         return STATUS_INVALID_DEVICE_REQUEST;
     }

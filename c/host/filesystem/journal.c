@@ -128,6 +128,13 @@ void kz_journal_close(const KzName *name)
     name->file->reasons = 0;
 }
 
+void kz_write_close_record(const KzName *name)
+{
+    kz_uses_all();
+    put(name, name->file->reasons | USN_REASON_CLOSE);
+    name->file->reasons = 0;
+}
+
 /* Whoever reads of it is taken to use everything. */
 static void note_read(void)
 {

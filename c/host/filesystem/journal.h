@@ -13,6 +13,7 @@ void kz_journal_write(const KzName *name, uint64_t offset, size_t length, uint64
 /* The same of a name that is new or gone, or of what else a file has; and who waits for such changes hears of it. */
 void kz_changed(const KzName *name, ULONG filter, ULONG action);
 /* Its last handle is closed. */
+void kz_write_close_record(const KzName *name); /* also of what hasn't changed */
 void kz_journal_close(const KzName *name);
 /* Its record, as it stands by itself. Its length. */
 size_t kz_journal_record(const KzName *name, uint8_t *to);

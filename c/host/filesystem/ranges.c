@@ -27,10 +27,10 @@ static bool is_apart(const KzRange *held, uint64_t from, uint64_t length)
     return !length || !held->length || from >= held->from + held->length || held->from >= from + length;
 }
 
-/* Over an exclusive lock its owner may have a shared one, too. */
+/* Of the same bytes its owner may have a shared lock beside the exclusive one. */
 static bool is_in_the_way(const KzHeldRange *one, const void *owner, const KzRange *range)
 {
-    bool is_own = one->owner == owner && one->range.key == range->key;
+    bool is_own = one->owner == owner && one->range.key == range->key && one->range.from == range->from && one->range.length == range->length;
     return !is_apart(&one->range, range->from, range->length) && (range->is_exclusive || (one->range.is_exclusive && !is_own));
 }
 

@@ -15,6 +15,7 @@
 #include "filesystem/record.h"
 #include "filesystem/sharing.h"
 #include "filesystem/spelling.h"
+#include "filesystem/sectors.h"
 #include "filesystem/stream.h"
 #include "filesystem/ranges.h"
 #include "filesystem/tree.h"
@@ -135,6 +136,20 @@ static void call_data(KzOp *op, const KazdrinData *call, uint8_t worker)
         kz_end_uncached(op, call);
 }
 
+/* A read or a write of the volume's own sectors. */
+static void call_sectors(KzOp *op, const KazdrinData *call, uint8_t worker)
+{
+    size_t length;
+    bool is_write = call->operation == KZE_WRITE;
+    if (is_write)
+        kazdrin_lent(&kz.manager, &(KazdrinEvent){.worker = worker}, &(KazdrinData){0}, kz_me->room, sizeof kz_me->room);
+    NTSTATUS status = kz_call_sectors(op->file, call, kz_me->room, &length);
+    if (!is_write || !NT_SUCCESS(status))
+        answer(op, status, kz_me->room, length);
+    else
+        kazdrin_based(&kz.manager, &(KazdrinEvent){.worker = worker, .status = KZS_OK, .offset = length}, (const uint8_t *)"", 0);
+}
+
 /* Whether it gives the file a handle, as far as the names say. */
 static bool opens_bytes(const KzOp *op, uint8_t mode, bool was_there)
 {
@@ -253,6 +268,8 @@ static bool call_file_system(KzOp *op)
         answer(op, STATUS_USER_MAPPED_FILE, NULL, 0);
     else if (call.operation == KZE_CREATE && op->file->name)
         call_create(op, &call, worker);
+    else if (op->file->is_volume && (call.operation == KZE_READ || call.operation == KZE_WRITE))
+        call_sectors(op, &call, worker);
     else if (answers(op, &call, &status))
         return true;
     else if (op->file->name)

@@ -17,6 +17,7 @@
 #include "filesystem/handle.h"
 #include "filesystem/name.h"
 #include "filesystem/record.h"
+#include "filesystem/sectors.h"
 #include "filesystem/stream.h"
 #include "filesystem/journal.h"
 #include "filesystem/notice.h"
@@ -51,5 +52,5 @@
 const KzModule *const kz_modules[] = {
     &kz_operation_module, &kz_ecp_module,    &kz_context_module, &kz_name_module,   &kz_dpc_module,    &kz_work_module,    &kz_piece_module,   &kz_timer_module,
     &kz_edge_module,      &kz_access_module,    &kz_stack_module,   &kz_lent_module,     &kz_held_module,      &kz_reference_module, &kz_process_module, &kz_registry_module, &kz_port_module, &kz_device_module, &kz_handle_module, &kz_section_module,
-    &kz_filecontext_module, &kz_journal_module, &kz_notice_module,    &kz_oplocks_module, &kz_own_oplock_module, &kz_filelock_module, &kz_bypass_module, &kz_waiting_module,    &kz_range_module,  &kz_label_module,   &kz_version_module, &kz_tree_module,   &kz_record_module, &kz_stream_module, &kz_tunnel_module, &kz_cache_module, &kz_writer_module, &kz_image_module, &kz_beside_module, &kz_thread_module,  &kz_routine_module, &kz_program_module,
+    &kz_filecontext_module, &kz_journal_module, &kz_notice_module,    &kz_oplocks_module, &kz_own_oplock_module, &kz_filelock_module, &kz_bypass_module, &kz_waiting_module,    &kz_range_module,  &kz_label_module, &kz_sector_module,   &kz_version_module, &kz_tree_module,   &kz_record_module, &kz_stream_module, &kz_tunnel_module, &kz_cache_module, &kz_writer_module, &kz_image_module, &kz_beside_module, &kz_thread_module,  &kz_routine_module, &kz_program_module,
     &kz_made_module,      &kz_told_module,   &kz_kept_module,    &kz_refusal_module,  NULL};

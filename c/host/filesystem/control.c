@@ -15,13 +15,14 @@
 #include "filesystem/ranges.h"
 #include "filesystem/tag.h"
 #include "filesystem/tree.h"
+#include "filesystem/version.h"
 #include "lib/descriptor.h"
 
 /* ---- Security: a descriptor that stands in one piece, as it was set; where none was, one of nobody's, with no lists. */
 static NTSTATUS set_security(KzOp *op, const FLT_PARAMETERS *now)
 {
     size_t length = op->opaque->input_size;
-    KzBytes *kept = &op->file->name->file->security;
+    KzBytes *kept = &op->file->name->file->beside.security;
     SECURITY_INFORMATION what = now->SetSecurity.SecurityInformation;
     if (!kz_is_descriptor(now->SetSecurity.SecurityDescriptor, length))
         return STATUS_INVALID_SECURITY_DESCR;
@@ -35,7 +36,7 @@ static NTSTATUS set_security(KzOp *op, const FLT_PARAMETERS *now)
 
 static NTSTATUS query_security(KzOp *op, const FLT_PARAMETERS *now)
 {
-    const KzBytes *kept = &op->file->name->file->security;
+    const KzBytes *kept = &kz_beside_of(op->file->name->file, op->file->transaction)->security;
     uint8_t *made = kz_memory(kept->length + sizeof KZ_NO_DESCRIPTOR);
     size_t length = kz_join_descriptors(kept->length ? kept->bytes : KZ_NO_DESCRIPTOR, now->QuerySecurity.SecurityInformation, NULL, 0, made);
     bool has_room = now->QuerySecurity.Length >= length;

@@ -7,6 +7,7 @@
 #include "filesystem/journal.h"
 #include "filesystem/record.h"
 #include "filesystem/tree.h"
+#include "filesystem/version.h"
 
 #include <stdlib.h>
 #include <strings.h>
@@ -81,7 +82,7 @@ static bool put(Chain *to, const Ea *one)
 NTSTATUS kz_set_ea(KzOp *op, const FLT_PARAMETERS *now)
 {
     KzName *name = op->file->name;
-    KzBytes *kept = &name->file->ea;
+    KzBytes *kept = &name->file->beside.ea;
     const Ea *asked = first_of(now->SetEa.EaBuffer, now->SetEa.Length);
     size_t wrong, room = kept->length + now->SetEa.Length + 8;
     if (asked && !is_chain(now->SetEa.EaBuffer, now->SetEa.Length, &wrong)) {
@@ -177,7 +178,7 @@ static NTSTATUS query_next(KzOp *op, const FLT_PARAMETERS *now, Chain *made, con
 
 NTSTATUS kz_query_ea(KzOp *op, const FLT_PARAMETERS *now)
 {
-    const KzBytes *kept = &op->file->name->file->ea;
+    const KzBytes *kept = &kz_beside_of(op->file->name->file, op->file->transaction)->ea;
     const Ea *all = first_of(kept->bytes, kept->length);
     Chain made = {.bytes = now->QueryEa.EaBuffer, .room = now->QueryEa.Length};
     bool has_list = now->QueryEa.EaList && now->QueryEa.EaListLength;

@@ -123,7 +123,8 @@ static void show(uint8_t *to, const Shape *shape, const Entry *entry, PKTRANSACT
     kz_show_network(entry->file->streams, from, &said);
     FILE_DIRECTORY_INFORMATION head = {0, 0, said.CreationTime, said.LastAccessTime, said.LastWriteTime, said.ChangeTime, said.EndOfFile, said.AllocationSize, said.FileAttributes, length, {0}};
     memcpy(to, &head, offsetof(FILE_DIRECTORY_INFORMATION, FileName));
-    ULONG ea = entry->file->reparse.length ? kz_tag_of(entry->file) : (ULONG)entry->file->ea.length;
+    const KzBeside *beside = kz_beside_of(entry->file, from);
+    ULONG ea = beside->reparse.length ? ((const REPARSE_DATA_BUFFER *)(const void *)beside->reparse.bytes)->ReparseTag : (ULONG)beside->ea.length;
     if (shape->ea)
         memcpy(to + shape->ea, &ea, sizeof ea);
     if (shape->id)

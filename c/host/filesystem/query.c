@@ -136,7 +136,7 @@ static NTSTATUS query_all(const KzFile *file, const KzRoom *room)
     show_basic(&facts, &said.all.BasicInformation);
     kz_show_standard(file, &said.all.StandardInformation);
     said.all.InternalInformation.IndexNumber.QuadPart = (LONGLONG)record->id;
-    said.all.EaInformation.EaSize = (ULONG)record->ea.length;
+    said.all.EaInformation.EaSize = (ULONG)kz_beside_of(record, file->transaction)->ea.length;
     said.all.AccessInformation.AccessFlags = file->access;
     said.all.PositionInformation.CurrentByteOffset = file->object.CurrentByteOffset;
     said.all.ModeInformation.Mode = mode_of(file);
@@ -219,7 +219,7 @@ static size_t show_fixed(const KzFile *file, int class, Fixed *said)
         said->internal.IndexNumber.QuadPart = (LONGLONG)record->id;
         return sizeof said->internal;
     case FileEaInformation:
-        said->ea.EaSize = (ULONG)record->ea.length;
+        said->ea.EaSize = (ULONG)kz_beside_of(record, file->transaction)->ea.length;
         return sizeof said->ea;
     case FileAccessInformation:
         said->access.AccessFlags = file->access;

@@ -30,7 +30,7 @@ void kz_keep_bytes(KzBytes *kept, const void *bytes, size_t length)
 
 void kz_forget_tag(KzRecord *record)
 {
-    kz_keep_bytes(&record->reparse, NULL, 0);
+    kz_keep_bytes(&record->beside.reparse, NULL, 0);
     record->attributes &= ~(ULONG)FILE_ATTRIBUTE_REPARSE_POINT;
     record->attributes |= record->attributes ? 0 : FILE_ATTRIBUTE_NORMAL;
 }
@@ -63,11 +63,16 @@ KzRecord *kz_new_record(PFLT_VOLUME volume, const char *text)
     return made;
 }
 
+void kz_copy_beside(KzBeside *to, const KzBeside *from)
+{
+    kz_keep_bytes(&to->ea, from ? from->ea.bytes : NULL, from ? from->ea.length : 0);
+    kz_keep_bytes(&to->security, from ? from->security.bytes : NULL, from ? from->security.length : 0);
+    kz_keep_bytes(&to->reparse, from ? from->reparse.bytes : NULL, from ? from->reparse.length : 0);
+}
+
 static void forget_what_is_kept(KzRecord *record)
 {
-    kz_keep_bytes(&record->ea, NULL, 0);
-    kz_keep_bytes(&record->security, NULL, 0);
-    kz_keep_bytes(&record->reparse, NULL, 0);
+    kz_copy_beside(&record->beside, NULL);
     kz_keep_bytes(&record->object_id, NULL, 0);
 }
 

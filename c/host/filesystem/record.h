@@ -19,6 +19,8 @@ void kz_end_record(KzRecord *record);
 uint64_t kz_allocated(PFLT_VOLUME volume, uint64_t size);
 /* It is no reparse point any more. */
 void kz_forget_tag(KzRecord *record);
+/* NULL: nothing. */
+void kz_copy_beside(KzBeside *to, const KzBeside *from);
 void kz_keep_bytes(KzBytes *kept, const void *bytes, size_t length);
 
 #endif

@@ -138,10 +138,10 @@ void kz_note_opened(KzOp *op, bool was_there, bool had_file)
     if (name->base && had_file)
         return; /* what else there is is the file's, and stays */
     if (is_cut) {
-        kz_keep_bytes(&name->file->ea, NULL, 0);
+        kz_keep_bytes(&name->file->beside.ea, NULL, 0);
         kz_forget_tag(name->file);
     }
     give_attributes(name->file, create, was_there);
     if (create->ea_length)
-        kz_keep_bytes(&name->file->ea, create->ea, create->ea_length);
+        kz_keep_bytes(&name->file->beside.ea, create->ea, create->ea_length);
 }

@@ -9,11 +9,12 @@
 #include "filesystem/record.h"
 #include "filesystem/notice.h"
 #include "filesystem/sharing.h"
+#include "filesystem/version.h"
 
 /* As it was set: a header, with a GUID where the tag isn't Microsoft's, and its data. */
 static const REPARSE_DATA_BUFFER *point_of(const KzRecord *record)
 {
-    return record->reparse.length ? (const REPARSE_DATA_BUFFER *)record->reparse.bytes : NULL;
+    return record->beside.reparse.length ? (const REPARSE_DATA_BUFFER *)record->beside.reparse.bytes : NULL;
 }
 
 ULONG kz_tag_of(const KzRecord *record)
@@ -86,7 +87,7 @@ static NTSTATUS set(KzName *name, const REPARSE_DATA_BUFFER *said, size_t length
         return status;
     if (kz_is_directory(name) && !IsReparseTagDirectory(said->ReparseTag) && !kz_is_empty(name))
         return STATUS_DIRECTORY_NOT_EMPTY;
-    kz_keep_bytes(&name->file->reparse, said, length);
+    kz_keep_bytes(&name->file->beside.reparse, said, length);
     name->file->attributes = (name->file->attributes & ~(ULONG)FILE_ATTRIBUTE_NORMAL) | FILE_ATTRIBUTE_REPARSE_POINT;
     kz_journal(name, USN_REASON_REPARSE_POINT_CHANGE);
     kz_notify(name, FILE_NOTIFY_CHANGE_ATTRIBUTES, FILE_ACTION_MODIFIED);
@@ -112,7 +113,7 @@ static NTSTATUS take_off(KzName *name, const REPARSE_DATA_BUFFER *said, size_t l
 
 static NTSTATUS get(KzOp *op, const FLT_PARAMETERS *now)
 {
-    const KzBytes *kept = &op->file->name->file->reparse;
+    const KzBytes *kept = &kz_beside_of(op->file->name->file, op->file->transaction)->reparse;
     ULONG room = now->FileSystemControl.Common.OutputBufferLength;
     if (!room)
         return STATUS_INVALID_USER_BUFFER;
@@ -176,18 +177,24 @@ NTSTATUS kz_control_tag(KzOp *op, const FLT_PARAMETERS *now)
 }
 
 /* ---- A create that comes upon one. */
-static bool meet(KzOp *op, const KzRecord *record, size_t rest)
+static bool meet(KzOp *op, const KzBytes *point, size_t rest)
 {
-    op->met.point = &record->reparse;
+    op->met.point = point;
     op->met.rest = rest;
-    op->file->created = kz_tag_of(record);
+    op->file->created = ((const REPARSE_DATA_BUFFER *)point->bytes)->ReparseTag;
     return true;
 }
 
-/* Whether a filter wants it opened by itself. */
-static bool is_to_open(const KzOp *op, const KzRecord *record)
+/* As who opens it sees it. */
+static const KzBytes *seen_point(const KzOp *op, const KzName *name)
 {
-    const REPARSE_DATA_BUFFER *point = point_of(record);
+    const KzBytes *point = name && name->file->exists ? &kz_beside_of(name->file, op->file->transaction)->reparse : NULL;
+    return point && point->length ? point : NULL;
+}
+
+/* Whether a filter wants it opened by itself. */
+static bool is_to_open(const KzOp *op, const REPARSE_DATA_BUFFER *point)
+{
     for (const LIST_ENTRY *at = op->opens.Flink; at && at != &op->opens; at = at->Flink) {
         const OPEN_REPARSE_LIST_ENTRY *one = CONTAINING_RECORD(at, OPEN_REPARSE_LIST_ENTRY, OpenReparseListEntry);
         if (one->ReparseTag == point->ReparseTag && (IsReparseTagMicrosoft(one->ReparseTag) || memcmp(&one->ReparseGuid, guid_of(point), sizeof one->ReparseGuid) == 0))
@@ -202,9 +209,9 @@ static bool meets_above(KzOp *op, const KzName *name)
     char above[KZ_PATH];
     for (const char *slash = strchr(name->text, '/'); slash; slash = strchr(slash + 1, '/')) {
         snprintf(above, sizeof above, "%.*s", (int)(slash - name->text), name->text);
-        const KzName *one = kz_find_name(name->volume, above);
-        if (one && one->file->exists && one->file->reparse.length && !is_to_open(op, one->file))
-            return meet(op, one->file, strlen(slash));
+        const KzBytes *point = seen_point(op, kz_find_name(name->volume, above));
+        if (point && !is_to_open(op, (const void *)point->bytes))
+            return meet(op, point, strlen(slash));
     }
     return false;
 }
@@ -215,7 +222,8 @@ bool kz_meets_tag(KzOp *op, uint8_t mode)
     bool is_link_itself = op->create.options & FILE_OPEN_REPARSE_POINT || mode == 1;
     if (meets_above(op, name))
         return true;
-    return !is_link_itself && name->file->exists && name->file->reparse.length && !is_to_open(op, name->file) && meet(op, name->file, 0);
+    const KzBytes *point = is_link_itself ? NULL : seen_point(op, name);
+    return point && !is_to_open(op, (const void *)point->bytes) && meet(op, point, 0);
 }
 
 /* ---- Where the system goes on. */

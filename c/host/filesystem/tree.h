@@ -26,6 +26,11 @@ typedef struct KzBytes {
     size_t length;
 } KzBytes;
 
+/* What a file has beside its streams. */
+typedef struct KzBeside {
+    KzBytes ea, security, reparse;
+} KzBeside;
+
 /* Bytes in memory (bytes.h), a page each, in the order of their numbers. */
 typedef struct {
     uint64_t number;
@@ -69,7 +74,8 @@ typedef struct KzRecord {
     LONGLONG usn;  /* of its last record in the journal */
     ULONG reasons; /* of changes since it was opened */
     ULONG attributes;
-    KzBytes ea, security, reparse, object_id;
+    KzBeside beside;
+    KzBytes object_id;
     KzStream *streams;     /* the unnamed one first, and then in the order of their names */
     struct KzVersion *version; /* that a transaction changes (version.h); NULL if none does */
     struct KzName *marked; /* the name that goes with the last handle; NULL: the file is to stay */

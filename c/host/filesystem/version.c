@@ -32,6 +32,7 @@ typedef struct KzVersion {
     char *path; /* that it had */
     bool was_there, is_deleted;
     KzFacts facts; /* of the file; sizes are the streams' */
+    KzBeside beside;
     Old *streams;
 } KzVersion;
 
@@ -115,6 +116,12 @@ KzFacts kz_facts_of(const KzStream *stream, const struct _KTRANSACTION *from)
     if (old)
         facts.size = old->kept.size, facts.allocation = old->kept.allocation, facts.pages = &old->kept.pages;
     return facts;
+}
+
+const KzBeside *kz_beside_of(const KzRecord *record, const struct _KTRANSACTION *from)
+{
+    const KzVersion *version = seen(record, from);
+    return version ? &version->beside : &record->beside;
 }
 
 KzStream *kz_seen_stream(const KzFile *file)
@@ -224,6 +231,7 @@ void kz_begin_version(KzFile *file, const KzCreate *create, bool was_there, bool
     made->facts.size = made->facts.allocation = 0;
     made->facts.pages = NULL;
     made->path = kz_copy_of(own->text);
+    kz_copy_beside(&made->beside, &record->beside);
     kz_keep_name(own);
     if (had_file)
         keep_streams(made, own, was_there ? NULL : name->stream, file);
@@ -296,6 +304,7 @@ static void put_back(KzVersion *version)
     }
     for (Old *old = version->streams; old; old = old->next)
         put_back_stream(old);
+    kz_copy_beside(&record->beside, &version->beside);
     record->created = version->facts.created;
     record->accessed = version->facts.accessed;
     record->written = version->facts.written;
@@ -338,6 +347,13 @@ static void end_streams(KzVersion *version)
     }
 }
 
+static void free_version(KzVersion *gone)
+{
+    kz_copy_beside(&gone->beside, NULL);
+    free(gone->path);
+    free(gone);
+}
+
 void kz_end_versions(PKTRANSACTION transaction, bool is_committed)
 {
     while (transaction->versions) {
@@ -351,8 +367,7 @@ void kz_end_versions(PKTRANSACTION transaction, bool is_committed)
             kz_delete_name(one->name);
         end_streams(one);
         kz_let_go_name(one->name);
-        free(one->path);
-        free(one);
+        free_version(one);
     }
 }
 
@@ -369,8 +384,7 @@ static void free_transactions(void)
         for (KzVersion *one = gone->versions, *next; one; one = next) {
             next = one->next;
             free_streams(one);
-            free(one->path);
-            free(one);
+            free_version(one);
         }
         for (KzMember *one = gone->members, *next; one; one = next) {
             next = one->next;

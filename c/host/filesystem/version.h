@@ -26,6 +26,7 @@ bool kz_is_transaction(const struct _KTRANSACTION *one);
 KzMember **kz_member_of(PKTRANSACTION transaction, PFLT_INSTANCE instance);
 PKTRANSACTION kz_transaction_of(PFLT_INSTANCE instance);
 /* As who is in that transaction sees it; NULL: who is in none. */
+const KzBeside *kz_beside_of(const KzRecord *record, const struct _KTRANSACTION *from);
 KzFacts kz_facts_of(const KzStream *stream, const struct _KTRANSACTION *from);
 /* The file's stream, or what was committed of it last if another transaction changes it. */
 KzStream *kz_seen_stream(const KzFile *file);

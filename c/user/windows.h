@@ -306,6 +306,8 @@ DWORD SetFilePointer(HANDLE File, LONG Distance, PLONG High, DWORD Method);
 BOOL SetEndOfFile(HANDLE File);
 BOOL DeleteFileA(LPCSTR Name);
 BOOL DeleteFileW(LPCWSTR Name);
+BOOL DeleteFileTransactedA(LPCSTR Name, HANDLE Transaction);
+BOOL DeleteFileTransactedW(LPCWSTR Name, HANDLE Transaction);
 
 /* ---- Directories, and files by their names. */
 #define INVALID_FILE_ATTRIBUTES 0xffffffff
@@ -346,6 +348,8 @@ BOOL MoveFileA(LPCSTR From, LPCSTR To);
 BOOL MoveFileW(LPCWSTR From, LPCWSTR To);
 BOOL MoveFileExA(LPCSTR From, LPCSTR To, DWORD Flags);
 BOOL MoveFileExW(LPCWSTR From, LPCWSTR To, DWORD Flags);
+BOOL MoveFileTransactedA(LPCSTR From, LPCSTR To, PVOID Progress, LPVOID Data, DWORD Flags, HANDLE Transaction);
+BOOL MoveFileTransactedW(LPCWSTR From, LPCWSTR To, PVOID Progress, LPVOID Data, DWORD Flags, HANDLE Transaction);
 HANDLE FindFirstFileA(LPCSTR Name, LPWIN32_FIND_DATAA Data);
 HANDLE FindFirstFileW(LPCWSTR Name, LPWIN32_FIND_DATAW Data);
 BOOL FindNextFileA(HANDLE Find, LPWIN32_FIND_DATAA Data);
@@ -437,6 +441,8 @@ char *gets_s(char *Room, size_t Size);
 #define WIN32_FIND_DATA WIN32_FIND_DATAW
 #define LPWIN32_FIND_DATA LPWIN32_FIND_DATAW
 #define DeleteFile DeleteFileW
+#define DeleteFileTransacted DeleteFileTransactedW
+#define MoveFileTransacted MoveFileTransactedW
 #define OutputDebugString OutputDebugStringW
 #define lstrlen lstrlenW
 #else
@@ -457,6 +463,8 @@ char *gets_s(char *Room, size_t Size);
 #define WIN32_FIND_DATA WIN32_FIND_DATAA
 #define LPWIN32_FIND_DATA LPWIN32_FIND_DATAA
 #define DeleteFile DeleteFileA
+#define DeleteFileTransacted DeleteFileTransactedA
+#define MoveFileTransacted MoveFileTransactedA
 #define OutputDebugString OutputDebugStringA
 #define lstrlen lstrlenA
 #endif

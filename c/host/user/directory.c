@@ -61,10 +61,11 @@ static uint32_t make_directory(const char *path)
     return ask_by_path(path, &create, NULL, NULL);
 }
 
-static uint32_t remove_named(const char *path, ULONG kind)
+static uint32_t remove_named(const char *path, ULONG kind, PKTRANSACTION transaction)
 {
     const FILE_DISPOSITION_INFORMATION gone = {TRUE};
-    const KzCreate create = opening(DELETE, FILE_OPEN, kind | FILE_OPEN_REPARSE_POINT);
+    KzCreate create = opening(DELETE, FILE_OPEN, kind | FILE_OPEN_REPARSE_POINT);
+    create.transaction = transaction;
     const KzAsked asked = set(FileDispositionInformation, &gone, sizeof gone);
     return ask_by_path(path, &create, &asked, NULL);
 }
@@ -85,7 +86,7 @@ static uint32_t set_attributes(const char *path, uint32_t attributes)
 }
 
 /* To a whole name, on the same volume. */
-static uint32_t move(const char *from, const char *to, uint32_t flags)
+static uint32_t move(const char *from, const char *to, uint32_t flags, PKTRANSACTION transaction)
 {
     uint8_t bytes[sizeof(FILE_RENAME_INFORMATION) + (KZ_PROGRAM_PATH + 8) * sizeof(WCHAR)] = {0};
     PFILE_RENAME_INFORMATION said = (PFILE_RENAME_INFORMATION)bytes;
@@ -95,7 +96,8 @@ static uint32_t move(const char *from, const char *to, uint32_t flags)
     snprintf(whole, sizeof whole, "/?" "?/%s", to);
     said->ReplaceIfExists = flags & 1; /* MOVEFILE_REPLACE_EXISTING */
     said->FileNameLength = (ULONG)kz_widen(said->FileName, whole);
-    const KzCreate create = opening(DELETE | FILE_READ_ATTRIBUTES, FILE_OPEN, FILE_OPEN_REPARSE_POINT);
+    KzCreate create = opening(DELETE | FILE_READ_ATTRIBUTES, FILE_OPEN, FILE_OPEN_REPARSE_POINT);
+    create.transaction = transaction;
     const KzAsked asked = set(FileRenameInformation, said, sizeof *said + said->FileNameLength);
     return ask_by_path(from, &create, &asked, NULL);
 }
@@ -148,30 +150,48 @@ static uint32_t query_data(const char *path, FileData *to)
     return error;
 }
 
-static uint32_t move_to(const char *path, const char *to, uint32_t flags)
+static uint32_t move_to(const char *path, const char *to, uint32_t flags, PKTRANSACTION transaction)
 {
     char whole[KZ_PROGRAM_PATH];
     path_of(whole, to);
-    return move(path, whole, flags);
+    return move(path, whole, flags, transaction);
 }
 
-static uint32_t move_to_wide(const char *path, const WCHAR *to, uint32_t flags)
+static uint32_t move_to_wide(const char *path, const WCHAR *to, uint32_t flags, PKTRANSACTION transaction)
 {
     char whole[KZ_PROGRAM_PATH];
     path_of_wide(whole, to);
-    return move(path, whole, flags);
+    return move(path, whole, flags, transaction);
 }
+
+/* Of a transaction's handle. */
+static bool find_transaction(const void *handle, PKTRANSACTION *in)
+{
+    const KzObject *object = kz_object(handle, KZU_TRANSACTION);
+    *in = object ? object->transaction : NULL;
+    return object;
+}
+
+#define ASKED_IN(handle, asked)                                                 \
+    ({                                                                          \
+        PKTRANSACTION in;                                                       \
+        find_transaction(handle, &in) ? (asked) : 6 /* ERROR_INVALID_HANDLE */; \
+    })
 
 BY_PATH(CreateDirectoryA, char, path_of, (const char *file_name, void *attributes), ((void)attributes, make_directory(path)))
 BY_PATH(CreateDirectoryW, WCHAR, path_of_wide, (const WCHAR *file_name, void *attributes), ((void)attributes, make_directory(path)))
-BY_PATH(RemoveDirectoryA, char, path_of, (const char *file_name), remove_named(path, FILE_DIRECTORY_FILE))
-BY_PATH(RemoveDirectoryW, WCHAR, path_of_wide, (const WCHAR *file_name), remove_named(path, FILE_DIRECTORY_FILE))
-BY_PATH(DeleteFileA, char, path_of, (const char *file_name), remove_named(path, FILE_NON_DIRECTORY_FILE))
-BY_PATH(DeleteFileW, WCHAR, path_of_wide, (const WCHAR *file_name), remove_named(path, FILE_NON_DIRECTORY_FILE))
+BY_PATH(RemoveDirectoryA, char, path_of, (const char *file_name), remove_named(path, FILE_DIRECTORY_FILE, NULL))
+BY_PATH(RemoveDirectoryW, WCHAR, path_of_wide, (const WCHAR *file_name), remove_named(path, FILE_DIRECTORY_FILE, NULL))
+BY_PATH(DeleteFileA, char, path_of, (const char *file_name), remove_named(path, FILE_NON_DIRECTORY_FILE, NULL))
+BY_PATH(DeleteFileW, WCHAR, path_of_wide, (const WCHAR *file_name), remove_named(path, FILE_NON_DIRECTORY_FILE, NULL))
 BY_PATH(SetFileAttributesA, char, path_of, (const char *file_name, uint32_t attributes), set_attributes(path, attributes))
 BY_PATH(SetFileAttributesW, WCHAR, path_of_wide, (const WCHAR *file_name, uint32_t attributes), set_attributes(path, attributes))
-BY_PATH(MoveFileExA, char, path_of, (const char *file_name, const char *to, uint32_t flags), move_to(path, to, flags))
-BY_PATH(MoveFileExW, WCHAR, path_of_wide, (const WCHAR *file_name, const WCHAR *to, uint32_t flags), move_to_wide(path, to, flags))
+BY_PATH(MoveFileExA, char, path_of, (const char *file_name, const char *to, uint32_t flags), move_to(path, to, flags, NULL))
+BY_PATH(MoveFileExW, WCHAR, path_of_wide, (const WCHAR *file_name, const WCHAR *to, uint32_t flags), move_to_wide(path, to, flags, NULL))
+BY_PATH(DeleteFileTransactedA, char, path_of, (const char *file_name, void *transaction), ASKED_IN(transaction, remove_named(path, FILE_NON_DIRECTORY_FILE, in)))
+BY_PATH(DeleteFileTransactedW, WCHAR, path_of_wide, (const WCHAR *file_name, void *transaction), ASKED_IN(transaction, remove_named(path, FILE_NON_DIRECTORY_FILE, in)))
+BY_PATH(MoveFileTransactedA, char, path_of, (const char *file_name, const char *to, const void *progress, void *data, uint32_t flags, void *transaction), ((void)progress, (void)data, ASKED_IN(transaction, move_to(path, to, flags, in))))
+BY_PATH(MoveFileTransactedW, WCHAR, path_of_wide, (const WCHAR *file_name, const WCHAR *to, const void *progress, void *data, uint32_t flags, void *transaction), ((void)progress, (void)data, ASKED_IN(transaction, move_to_wide(path, to, flags, in))))
 BY_PATH(GetFileAttributesExA, char, path_of, (const char *file_name, int level, FileData *to), level ? 87 : query_data(path, to))
 BY_PATH(GetFileAttributesExW, WCHAR, path_of_wide, (const WCHAR *file_name, int level, FileData *to), level ? 87 : query_data(path, to))
 

@@ -52,5 +52,18 @@ int main(void)
     CloseHandle(other);
     CloseHandle(Write("third", L"C:\\kept"));
     Say("closed", L"C:\\kept");
+    transaction = CreateTransaction(NULL, NULL, 0, 0, 0, 0, NULL);
+    printf("delete: %d\n", DeleteFileTransactedW(L"C:\\kept", transaction));
+    Say("deleted, not committed", L"C:\\kept");
+    printf("rollback: %d\n", RollbackTransaction(transaction));
+    Say("rolled back", L"C:\\kept");
+    CloseHandle(transaction);
+    transaction = CreateTransaction(NULL, NULL, 0, 0, 0, 0, NULL);
+    printf("delete: %d\n", DeleteFileTransactedA("C:\\kept", transaction));
+    printf("commit: %d\n", CommitTransaction(transaction));
+    Say("committed", L"C:\\kept");
+    BOOL isDeleted = DeleteFileTransactedW(L"C:\\kept", NULL);
+    printf("in none: %d, error %lu\n", isDeleted, GetLastError());
+    CloseHandle(transaction);
     return 0;
 }

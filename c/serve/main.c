@@ -1,8 +1,9 @@
-/* kz_serve: the drivers that are linked with it, behind the frames of docs/FRAMES.md: PROGRAM [--cached] FOLDER SOCKET. One thread answers all connections.
+/* kz_serve: the drivers that are linked with it, behind the frames of docs/FRAMES.md: PROGRAM [--cached] [--guard] FOLDER SOCKET. One thread answers all connections.
  * Exit status: 0, or 5 where a driver's mistake was told, 1 for want of memory, 2 for wrong words, 3 where the folder or the socket isn't to be had. */
 #define _GNU_SOURCE
 #include "answer.h"
 
+#include "core/piece.h"
 #include "kzflt.h"
 
 #include <errno.h>
@@ -207,15 +208,40 @@ static void serve(int listener, bool is_cached)
     }
 }
 
+static int tell_usage(const char *program, FILE *to)
+{
+    fprintf(to,
+            "usage: %s [--cached] [--guard] FOLDER SOCKET\n"
+            "  serves FOLDER through its drivers to those who connect to SOCKET, until one asks it to stop\n"
+            "  --cached: reads and writes go by the files' pages\n"
+            "  --guard: a driver's memory has pages of its own, so that a touch past its end, or after it was freed, is told at its line\n",
+            program);
+    return to == stdout ? 0 : 2;
+}
+
+/* The words in front of the folder: how many they are. */
+static int read_words(char **words, bool *is_cached, bool *has_guards)
+{
+    int at = 1;
+    for (; words[at]; at++)
+        if (strcmp(words[at], "--cached") == 0)
+            *is_cached = true;
+        else if (strcmp(words[at], "--guard") == 0)
+            *has_guards = true;
+        else
+            break;
+    return at - 1;
+}
+
 int main(int count, char **words)
 {
-    bool is_cached = count == 4 && strcmp(words[1], "--cached") == 0;
-    if (count != 3 + is_cached) {
-        bool is_asked = count == 2 && strcmp(words[1], "--help") == 0;
-        fprintf(is_asked ? stdout : stderr, "usage: %s [--cached] FOLDER SOCKET\n  serves FOLDER through its drivers to those who connect to SOCKET, until one asks it to stop\n  --cached: reads and writes go by the files' pages\n", words[0]);
-        return is_asked ? 0 : 2;
-    }
-    words += is_cached;
+    bool is_cached = false, has_guards = false;
+    const char *program = words[0];
+    if (count == 2 && strcmp(words[1], "--help") == 0)
+        return tell_usage(program, stdout);
+    words += read_words(words, &is_cached, &has_guards);
+    if (!words[1] || !words[2] || words[3])
+        return tell_usage(program, stderr);
     for (size_t at = 0; at < LINKS; at++)
         links[at].socket = -1;
     int error = kz_use_folder(words[1]);
@@ -230,6 +256,8 @@ int main(int count, char **words)
     signal(SIGXFSZ, SIG_IGN); /* a file that may not get longer is the device's failure */
     if (kz_open(kz_drivers, kz_drivers_count) != 0)
         return 1;
+    if (!has_guards)
+        kz_guard_none();
     kz_is_quiet = 1;
     setvbuf(stdout, NULL, _IOLBF, 0);
     if (is_cached)

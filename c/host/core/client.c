@@ -63,6 +63,7 @@ unsigned kz_go_inside_unsaid(void)
     kz_scheduler->lock();
     kz_free_stack();
     kz_me->calls++;
+    kz_me->moments++;
     kz_me->inside = 1;
     kz_me->is_known = false;
     return 0;
@@ -206,13 +207,17 @@ void kz_driver_returned(unsigned depth, const char *name)
     kz_scheduler->lock();
     kz_free_stack();
     kz_me->inside = depth;
+    kz_me->moments++;
     kz_me->is_known = false;
     kz_open_all_owned();
 }
 
 void kz_pause(const char *name)
 {
+    uint64_t moment = kz_me->moments;
     kz_driver_returned(step_out(name), NULL);
+    if (!kz_scheduler->has_others)
+        kz_me->moments = moment; /* nobody could go on */
 }
 
 void kz_pause_until(const char *name, KzCan *can, void *what, const char *text)

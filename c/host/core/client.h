@@ -42,6 +42,7 @@ struct KzClient {
     bool owes_wait; /* it set something and said that it waits next: it is at DISPATCH_LEVEL until then */
     KIRQL before_wait;
     uint64_t calls;  /* that its drivers' code has made */
+    uint64_t moments; /* it is inside without a break in each */
     unsigned inside; /* how many calls of the host it is in; 0 in a driver's code */
     struct {
         KzTry *innermost;       /* of the blocks that its drivers' code is in */

@@ -43,6 +43,7 @@ enum { LISTS = KZ_FIRST_THREAD + KZ_THREADS };
 struct KzPieceState {
     KzPiece *places[PLACES]; /* by their address */
     size_t count, guarded;
+    bool has_no_guards;
     unsigned lists; /* up to the last one that was ever used */
     unsigned returns; /* since all were looked at */
     /* Of each client the pieces that it took, the newest first, and those that it gave back: so their order is its own alone. Whoever has the manager has these too. */
@@ -117,9 +118,14 @@ static void open_all(const KzPiece *piece)
         __asan_unpoison_memory_region(body_of(piece) - ZONE, ZONE + piece->size + ZONE);
 }
 
+void kz_guard_none(void)
+{
+    kz.piece->has_no_guards = true;
+}
+
 static bool is_guarded(KzMemory kind, size_t size)
 {
-    return kz_scheduler->has_pages && !__asan_poison_memory_region && kind != KZK_BUFFER && kind != KZK_DATA && size <= GUARDED_BYTES &&
+    return !kz.piece->has_no_guards && kz_scheduler->has_pages && !__asan_poison_memory_region && kind != KZK_BUFFER && kind != KZK_DATA && size <= GUARDED_BYTES &&
            kz.piece->guarded < GUARDED;
 }
 

@@ -46,6 +46,9 @@ typedef struct KzPiece {
     bool is_touched; /* behind its end, and that was told */
 } __attribute__((aligned(16))) KzPiece;
 
+/* What a driver is given has no pages of its own in this run: it costs half the time, and an access past its end, or after it was given back, isn't told as it happens. */
+void kz_guard_none(void);
+
 #define kz_check_text(text, call) kz_check_text_from(text, call, KZ_CALLER())
 void *kz_take_memory(KzMemory kind, size_t size, int fill, ULONG tag);
 void kz_give_back(void *memory);

@@ -134,10 +134,10 @@ static KzFolderAnswer create(const KzFolder *folder, const char *path, uint8_t m
 }
 
 /* Reads until there are so many, or the file ends: how many, or -1. */
-static ssize_t fill(int file, uint8_t *room, size_t length, uint64_t offset)
+static ssize_t fill(int file, uint8_t *room, size_t length, uint64_t offset, uint64_t size)
 {
     size_t count = 0;
-    while (count < length) {
+    while (count < length && (count == 0 || offset + count < size)) {
         ssize_t more = pread(file, room + count, length - count, (off_t)(offset + count));
         if (more == 0)
             break;
@@ -154,7 +154,7 @@ static KzFolderAnswer read_part(const KzFolder *folder, const char *path, uint64
 {
     struct stat found;
     int file = open_regular(folder, path, O_RDONLY, &found);
-    ssize_t count = file == -1 ? -1 : fill(file, room, length, offset);
+    ssize_t count = file == -1 ? -1 : fill(file, room, length, offset, (uint64_t)found.st_size);
     KzFolderAnswer answer = done(file, count != -1);
     if (answer.status == KZS_OK && count == 0 && length > 0)
         answer.status = END_OF_FILE;
@@ -229,7 +229,7 @@ static int64_t time_of(const struct timespec *time)
 void kz_folder_look(const KzFolder *folder, const char *path, KzFound *found)
 {
     struct stat is;
-    int file = open_below(folder, *path ? path : ".", O_PATH);
+    int file = *path ? open_below(folder, path, O_PATH) : folder->descriptor;
     *found = (KzFound){.is_other = file == -1 && errno != ENOENT && errno != ENOTDIR};
     if (file == -1)
         return;
@@ -238,7 +238,8 @@ void kz_folder_look(const KzFolder *folder, const char *path, KzFound *found)
         *found = (KzFound){.is_there = true, .is_directory = is_directory, .size = is_file ? (uint64_t)is.st_size : 0, .written = time_of(&is.st_mtim)};
     else
         found->is_other = true;
-    close(file);
+    if (*path)
+        close(file);
 }
 
 void kz_folder_entries(const KzFolder *folder, const char *path, void (*say)(void *given, const char *name), void *given)

@@ -110,8 +110,7 @@ static NTSTATUS source_status(const KzName *from, bool is_link)
 
 static bool is_over_memory(PFLT_VOLUME volume)
 {
-    KzFound found;
-    return !kz_look_in_folder(volume->id, "", &found);
+    return !kz_is_in_folder(volume->id);
 }
 
 static NTSTATUS target_status(const KzName *from, KzName *to, ULONG flags, bool is_link)

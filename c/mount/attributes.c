@@ -48,7 +48,7 @@ struct stat attributes_of(const Mount *mount, const Look *look, uint64_t size)
         .st_ctim = look->renewed,
     };
     if (!look->is_deleted)
-        below_tell(mount, look->path, &attributes);
+        below_tell(mount, look, &attributes);
     return attributes;
 }
 

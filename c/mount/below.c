@@ -88,14 +88,27 @@ static bool is_later(const struct timespec *one, const struct timespec *other)
     return one->tv_sec != other->tv_sec ? one->tv_sec > other->tv_sec : one->tv_nsec > other->tv_nsec;
 }
 
-void below_tell(const Mount *mount, const char *path, struct stat *attributes)
+/* A file's times, as long as the mount has none of its own. */
+static void tell_times(const Look *look, const struct stat *is, struct stat *attributes)
+{
+    if (look->has_times)
+        return;
+    attributes->st_atim = is->st_atim;
+    attributes->st_mtim = is->st_mtim;
+    if (!look->has_mode || is_later(&is->st_ctim, &attributes->st_ctim))
+        attributes->st_ctim = is->st_ctim;
+}
+
+void below_tell(const Mount *mount, const Look *look, struct stat *attributes)
 {
     struct stat is;
-    if (!tell_of(mount, path, &is) || (is.st_mode & S_IFMT) != (attributes->st_mode & S_IFMT))
+    if (!tell_of(mount, look->path, &is) || (is.st_mode & S_IFMT) != (attributes->st_mode & S_IFMT))
         return;
     attributes->st_blocks = is.st_blocks;
-    if (S_ISREG(is.st_mode))
+    if (S_ISREG(is.st_mode)) {
+        tell_times(look, &is, attributes);
         return;
+    }
     attributes->st_mtim = is.st_mtim;
     attributes->st_ctim = is_later(&is.st_ctim, &attributes->st_ctim) ? is.st_ctim : attributes->st_ctim;
     attributes->st_nlink = is.st_nlink;
@@ -184,6 +197,16 @@ int below_set_times(const Mount *mount, const char *path, const struct timespec 
     int error = utimensat(file, "", times, AT_EMPTY_PATH) == 0 ? 0 : errno;
     close(file);
     return error;
+}
+
+void below_take_times(const Mount *mount, const char *path, struct timespec times[2])
+{
+    struct stat is;
+    times[0] = times[1] = (struct timespec){.tv_nsec = UTIME_OMIT};
+    if (!tell_of(mount, path, &is))
+        return;
+    times[0] = is.st_atim;
+    times[1] = is.st_mtim;
 }
 
 ssize_t below_read_link(const Mount *mount, const char *path, char *room, size_t size)

@@ -19,8 +19,8 @@ Kind below_kind(const Mount *mount, const char *path);
 bool below_is_folder(const Mount *mount, const char *path);
 /* Whether both are names of one file. */
 bool below_is_same(const Mount *mount, const char *path, const char *other);
-/* How much room a file takes is what it takes below; a folder and a link have their times, sizes and counts of links from there, too. */
-void below_tell(const Mount *mount, const char *path, struct stat *attributes);
+/* How much room a file takes is what it takes below, and its times are those that it has there, unless the mount has later ones; a folder and a link have sizes and counts of links from there, too. */
+void below_tell(const Mount *mount, const Look *look, struct stat *attributes);
 /* Makes a folder, which its owner may always use; removes an empty one; gives an empty one another name. Each answers 0 or an errno once that is written out, and EPERM where no folder is
  * named. */
 int below_make_folder(const Mount *mount, const char *path, mode_t mode);
@@ -29,8 +29,10 @@ int below_remove_folder(const Mount *mount, const char *path);
 int below_make_link(const Mount *mount, const char *path, const char *target);
 int below_remove_link(const Mount *mount, const char *path);
 int below_move_link(const Mount *mount, const char *path, const char *to);
-/* Sets the times of a folder or a link: last read, last changed, as for utimensat. 0 or an errno; where no folder is named nothing is set. */
+/* Sets times: last read, last changed, as for utimensat. 0 or an errno; where no folder is named nothing is set. */
 int below_set_times(const Mount *mount, const char *path, const struct timespec times[2]);
+/* The times that it has, to be set for another; where nobody knows them, none. */
+void below_take_times(const Mount *mount, const char *path, struct timespec times[2]);
 /* What a link says: how many bytes, or -1 with errno. */
 ssize_t below_read_link(const Mount *mount, const char *path, char *room, size_t size);
 /* Opens a folder to be listed: NULL with errno. */

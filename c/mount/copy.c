@@ -55,7 +55,9 @@ static int ask_for_room(Call *call)
 int copy_file(Call *call, const char *path, const char *to, bool is_new)
 {
     Reply reply;
+    struct timespec times[2];
     uint8_t volume = (uint8_t)call->mount->options.volume;
+    below_take_times(call->mount, path, times);
     int error = open_inside(call, path);
     if (error == 0)
         error = ask_for_room(call);
@@ -66,6 +68,7 @@ int copy_file(Call *call, const char *path, const char *to, bool is_new)
     uint64_t copied = reply.information;
     below_copy_mode(call->mount, path, to);
     error = copy_bytes(call, call->handle, copied);
+    below_set_times(call->mount, to, times);
     bool is_lost = !call->has_handle;
     call->has_handle = false;
     if (!is_lost)

@@ -174,7 +174,7 @@ static int refusal(Mount *mount, const Look *look, const struct stat *wanted, in
     return (which & FUSE_SET_ATTR_SIZE) && (uint64_t)wanted->st_size > LARGEST_FILE ? EFBIG : 0;
 }
 
-/* A file's are kept by the mount, where no program below sees them; a folder and a link get them below, where theirs are told from. 0 or an errno. */
+/* What lies below gets them there. A file that isn't ours has them in the mount alone. 0 or an errno. */
 static int keep_times(Mount *mount, Node *node, const Look *look, const struct stat *wanted, int which)
 {
     struct timespec now;
@@ -182,7 +182,8 @@ static int keep_times(Mount *mount, Node *node, const Look *look, const struct s
     const struct timespec *read = which & FUSE_SET_ATTR_ATIME_NOW ? &now : which & FUSE_SET_ATTR_ATIME ? &wanted->st_atim : NULL;
     const struct timespec *changed = which & FUSE_SET_ATTR_MTIME_NOW ? &now : which & FUSE_SET_ATTR_MTIME ? &wanted->st_mtim : NULL;
     const struct timespec none = {.tv_nsec = UTIME_OMIT}, times[2] = {read ? *read : none, changed ? *changed : none};
-    int error = look->kind == A_FILE || look->is_deleted ? 0 : below_set_times(mount, look->path, times);
+    int error = look->is_deleted ? 0 : below_set_times(mount, look->path, times);
+    error = look->kind == A_FILE ? 0 : error;
     if (error == 0 && node)
         nodes_set_times(&mount->nodes, node, read, changed);
     return error;

@@ -131,6 +131,7 @@ Look nodes_look(Nodes *nodes, Node *node)
     memcpy(look.path, node->path, strlen(node->path) + 1);
     look.kind = node->kind;
     look.is_deleted = node->is_deleted;
+    look.has_times = node->has_times;
     look.has_mode = node->has_mode;
     look.has_owner = node->has_owner;
     look.user = node->user;

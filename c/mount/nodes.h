@@ -46,7 +46,7 @@ typedef struct {
 typedef struct {
     char path[LONGEST_PATH + 1];
     Kind kind;
-    bool is_deleted, has_mode, has_owner;
+    bool is_deleted, has_times, has_mode, has_owner;
     struct timespec changed, read, renewed;
     mode_t mode;
     uid_t user;

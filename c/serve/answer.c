@@ -22,6 +22,7 @@ static Link *all;
 static size_t all_count;
 static Link *asking; /* whose own reply comes next */
 static bool is_closed[8]; /* the volume: a dismount was asked for, and no operation begins on it */
+static unsigned long long requests;
 static Link leftovers; /* handles of clients that are gone, which couldn't be closed yet */
 
 /* Who waits for that operation: nobody, where its client is gone. */
@@ -283,6 +284,7 @@ bool answer_frame(Link *link, const uint8_t *body, size_t length)
     KZ_CALL_OF(kz_a_request);
     link->code = frame.code;
     link->number = frame.number;
+    requests++;
     kz_tick();
     if (status == KZS_OK && !has_memory(frame.code))
         status = KZS_NO_MEMORY;
@@ -303,6 +305,19 @@ void answer_due_closes(void)
             all[at].is_close_due = false;
             close_handle(&all[at]);
         }
+}
+
+void answer_tell_counts(void)
+{
+    size_t connections = 0, held = 0, handles = 0;
+    for (size_t at = 0; at < all_count; at++)
+        if (all[at].socket != -1) {
+            connections++;
+            held += all[at].is_waiting;
+            handles += all[at].handles_count;
+        }
+    KzCounts counts = kz_counts();
+    printf("requests %llu connections %zu held %zu handles %zu born %llu cleaned %llu\n", requests, connections, held, handles, (unsigned long long)counts.born, (unsigned long long)counts.cleaned);
 }
 
 void answer_lazily(void)

@@ -10,6 +10,8 @@ void answer_begin(Link *links, size_t count);
 bool answer_frame(Link *link, const uint8_t *body, size_t length);
 /* Closes behind cleanups that were held. */
 void answer_due_closes(void);
+/* Prints how many requests there were, and what is there now. */
+void answer_tell_counts(void);
 /* The lazy writer's turn. */
 void answer_lazily(void);
 /* The link has ended: its handles are closed. */

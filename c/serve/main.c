@@ -4,6 +4,7 @@
 #include "answer.h"
 
 #include "core/piece.h"
+#include "filesystem/journal.h"
 #include "kzflt.h"
 
 #include <errno.h>
@@ -20,8 +21,14 @@ extern const size_t kz_drivers_count;
 
 static Link links[LINKS];
 
+/* A first SIGTERM is a Stop, a second one ends the connections too; SIGUSR1 asks for counts. They come while the server waits, and at no other time. */
+static struct {
+    volatile sig_atomic_t stops, counts;
+    sigset_t usual; /* what may come while it waits */
+} asked;
+
 /* Besides those of connections: for the folder's files, of which one is open at a time, and for what a driver's test opens. */
-enum { SPARE_DESCRIPTORS = 8, REST_MILLISECONDS = 20, LAZY_MILLISECONDS = 1000 };
+enum { SPARE_DESCRIPTORS = 8, REST_MILLISECONDS = 20, LAZY_MILLISECONDS = 1000, JOURNAL_BYTES = 1 << 20 };
 
 /* Whether there are descriptors for all connections: they are opened once, and closed again. */
 static bool has_descriptors(int listener)
@@ -192,6 +199,48 @@ static void write_lazily(void)
     answer_lazily();
 }
 
+static void take_signal(int signal)
+{
+    if (signal == SIGTERM)
+        asked.stops++;
+    else
+        asked.counts++;
+}
+
+static void take_signals(void)
+{
+    sigset_t ours;
+    struct sigaction taken = {.sa_handler = take_signal};
+    sigemptyset(&ours);
+    sigaddset(&ours, SIGTERM);
+    sigaddset(&ours, SIGUSR1);
+    sigprocmask(SIG_BLOCK, &ours, &asked.usual);
+    sigdelset(&asked.usual, SIGTERM);
+    sigdelset(&asked.usual, SIGUSR1);
+    sigaction(SIGTERM, &taken, NULL);
+    sigaction(SIGUSR1, &taken, NULL);
+}
+
+/* Waits for something on the first so many places, at most so long: whether there is anything. */
+static bool wait_for(struct pollfd *places, size_t count, int milliseconds)
+{
+    struct timespec most = {milliseconds / 1000, milliseconds % 1000 * 1000000L};
+    bool is_there = ppoll(places, count, milliseconds < 0 ? NULL : &most, &asked.usual) != -1;
+    if (asked.counts > 0)
+        answer_tell_counts();
+    asked.counts = 0;
+    return is_there;
+}
+
+static void end_all(void)
+{
+    for (size_t at = 0; at < LINKS; at++)
+        if (links[at].socket != -1) {
+            link_end(&links[at]);
+            answer_end(&links[at]);
+        }
+}
+
 /* Until a Stop was answered and the last client is gone. Where no connection can be had, the listener rests for a moment, since it stays readable. */
 static void serve(int listener, bool is_cached)
 {
@@ -201,7 +250,11 @@ static void serve(int listener, bool is_cached)
         places[0] = (struct pollfd){is_stopping || is_resting ? -1 : listener, POLLIN, 0};
         if (is_cached)
             write_lazily();
-        if (poll(places, 1 + used(), is_resting ? REST_MILLISECONDS : is_cached ? LAZY_MILLISECONDS : -1) == -1)
+        bool is_there = wait_for(places, 1 + used(), is_resting ? REST_MILLISECONDS : is_cached ? LAZY_MILLISECONDS : -1);
+        is_stopping |= asked.stops > 0;
+        if (asked.stops > 1)
+            end_all();
+        if (!is_there)
             continue;
         is_stopping |= serve_links(places + 1);
         is_resting = !is_stopping && places[0].revents && !accept_one(listener);
@@ -253,11 +306,13 @@ int main(int count, char **words)
         return fault(words[2]);
     if (!has_descriptors(listener))
         return fault("descriptors for all connections");
+    take_signals();
     signal(SIGXFSZ, SIG_IGN); /* a file that may not get longer is the device's failure */
     if (kz_open(kz_drivers, kz_drivers_count) != 0)
         return 1;
     if (!has_guards)
         kz_guard_none();
+    kz_bound_journal(JOURNAL_BYTES);
     kz_is_quiet = 1;
     setvbuf(stdout, NULL, _IOLBF, 0);
     if (is_cached)

@@ -12,7 +12,7 @@
 
 #include <stdlib.h>
 
-enum { LARGEST_RECORD = 1024 };
+enum { LARGEST_RECORD = 1024, USUAL_SIZE = 1 << 25 };
 
 typedef struct Kept {
     struct Kept *next;
@@ -20,6 +20,7 @@ typedef struct Kept {
 } Kept;
 
 struct KzJournalState {
+    USN size; /* that it is to have at most; 0: the usual one */
     struct {
         Kept *first, **end;
         USN next;
@@ -53,6 +54,44 @@ static size_t fill(const KzName *name, USN usn, ULONG reason, uint8_t *to)
     return head.RecordLength;
 }
 
+static USN size_of_all(void)
+{
+    return kz.journal->size ? kz.journal->size : USUAL_SIZE;
+}
+
+static USN delta(void)
+{
+    return size_of_all() / 8;
+}
+
+static USN first_of(uint8_t volume)
+{
+    const Kept *first = kz.journal->volumes[volume].first;
+    return first ? first->record->Usn : kz.journal->volumes[volume].next;
+}
+
+static void drop_first(uint8_t volume)
+{
+    Kept *gone = kz.journal->volumes[volume].first;
+    kz.journal->volumes[volume].first = gone->next;
+    free(gone->record);
+    free(gone);
+}
+
+/* As NTFS: once it has grown past its size by a delta, the oldest records go. */
+static void trim(uint8_t volume)
+{
+    if (kz.journal->volumes[volume].next - first_of(volume) <= size_of_all() + delta())
+        return;
+    while (kz.journal->volumes[volume].next - first_of(volume) > size_of_all())
+        drop_first(volume);
+}
+
+void kz_bound_journal(uint64_t size)
+{
+    kz.journal->size = (USN)size;
+}
+
 static void put(const KzName *name, ULONG reason)
 {
     uint8_t room[LARGEST_RECORD];
@@ -70,6 +109,7 @@ static void put(const KzName *name, ULONG reason)
     *kz.journal->volumes[at].end = made;
     kz.journal->volumes[at].end = &made->next;
     kz.journal->volumes[at].next += (USN)length;
+    trim(at);
 }
 
 static ULONG of_stream(ULONG reason)
@@ -151,7 +191,13 @@ size_t kz_journal_record(const KzName *name, uint8_t *to)
 void kz_query_journal(PFLT_VOLUME volume, USN_JOURNAL_DATA_V0 *to)
 {
     note_read();
-    *to = (USN_JOURNAL_DATA_V0){.UsnJournalID = volume->id + 1u, .NextUsn = kz.journal->volumes[volume->id].next, .MaxUsn = MAXLONGLONG, .MaximumSize = 1 << 25, .AllocationDelta = 1 << 22};
+    *to = (USN_JOURNAL_DATA_V0){.UsnJournalID = volume->id + 1u,
+                                .FirstUsn = first_of(volume->id),
+                                .NextUsn = kz.journal->volumes[volume->id].next,
+                                .LowestValidUsn = first_of(volume->id),
+                                .MaxUsn = MAXLONGLONG,
+                                .MaximumSize = (DWORDLONG)size_of_all(),
+                                .AllocationDelta = (DWORDLONG)delta()};
 }
 
 /* From that place on, as many as there is room for, behind the number of the next one. None waits for records. */
@@ -164,6 +210,8 @@ NTSTATUS kz_read_journal(PFLT_VOLUME volume, const READ_USN_JOURNAL_DATA_V0 *ask
         return STATUS_BUFFER_TOO_SMALL;
     if (asked->UsnJournalID != volume->id + 1u || asked->StartUsn < 0 || asked->StartUsn > next)
         return STATUS_INVALID_PARAMETER;
+    if (asked->StartUsn && asked->StartUsn < first_of(volume->id))
+        return STATUS_JOURNAL_ENTRY_DELETED;
     for (const Kept *one = kz.journal->volumes[volume->id].first; one; one = one->next) {
         const USN_RECORD_V2 *record = one->record;
         bool is_asked = record->Reason & asked->ReasonMask && (!asked->ReturnOnlyOnClose || record->Reason & USN_REASON_CLOSE);
@@ -221,12 +269,8 @@ NTSTATUS kz_list_records(PFLT_VOLUME volume, const MFT_ENUM_DATA_V0 *asked, uint
 static void free_journal(void)
 {
     for (size_t at = 0; at < sizeof kz.journal->volumes / sizeof kz.journal->volumes[0]; at++)
-        while (kz.journal->volumes[at].first) {
-            Kept *gone = kz.journal->volumes[at].first;
-            kz.journal->volumes[at].first = gone->next;
-            free(gone->record);
-            free(gone);
-        }
+        while (kz.journal->volumes[at].first)
+            drop_first((uint8_t)at);
 }
 
 const KzModule kz_journal_module = {KZ_STATE(journal), .free = free_journal};

@@ -17,6 +17,8 @@ void kz_write_close_record(const KzName *name); /* also of what hasn't changed *
 void kz_journal_close(const KzName *name);
 /* Its record, as it stands by itself. Its length. */
 size_t kz_journal_record(const KzName *name, uint8_t *to);
+/* Of what is older than so many bytes it has no record any more. */
+void kz_bound_journal(uint64_t size);
 /* FSCTL_QUERY_USN_JOURNAL, and FSCTL_READ_USN_JOURNAL. */
 void kz_query_journal(PFLT_VOLUME volume, USN_JOURNAL_DATA_V0 *to);
 NTSTATUS kz_read_journal(PFLT_VOLUME volume, const READ_USN_JOURNAL_DATA_V0 *asked, uint8_t *to, size_t room, size_t *length);

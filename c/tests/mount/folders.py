@@ -234,6 +234,14 @@ def owned(tally, tools):
         call("it has both", (0o40700, (12, 34)), lambda: (os.stat(at("e")).st_mode, owner("e")))
         call("a time", None, os.utime, at("f"), (5, 6))
         call("is kept beside the owner", (6, (12, 35)), lambda: (int(os.stat(at("f")).st_mtime), owner("f")))
+        call("another name", None, os.rename, at("f"), at("g"))
+        call("keeps the time", 6, lambda: os.stat(at("g")).st_mtime)
+        ground.unmount()
+        call("below it stays", (5, 6), lambda: (os.stat(ground.below("g")).st_atime, os.stat(ground.below("g")).st_mtime))
+        ground.start_mount()
+        call("and is there in another mount", (5, 6), lambda: (os.stat(at("g")).st_atime, os.stat(at("g")).st_mtime))
+        put(at("g"), b"later")
+        call("until it is written", True, lambda: os.stat(at("g")).st_mtime > 6)
 
 
 def run(tally, tools):

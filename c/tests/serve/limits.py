@@ -9,6 +9,7 @@ import os
 import resource
 import shlex
 import shutil
+import signal
 import struct
 import subprocess
 import sys
@@ -73,6 +74,11 @@ class Server:
         with open(f"/proc/{self.process.pid}/stat", encoding="ascii") as file:
             fields = file.read().rpartition(")")[2].split()
         return (int(fields[11]) + int(fields[12])) / os.sysconf("SC_CLK_TCK")
+
+    def resident(self):
+        """How many kilobytes of memory it has."""
+        with open(f"/proc/{self.process.pid}/statm", encoding="ascii") as file:
+            return int(file.read().split()[1]) * resource.getpagesize() // 1024
 
     def limit(self, name, most):
         """Another limit, while it runs."""
@@ -143,6 +149,58 @@ def many_names(command):
         makes(client, 1000, 9500)
         many = took(server, makes, client, 9500, 10000)
         expect("seconds of a processor", (few, many), lambda pair: pair[1] < 1.6 * pair[0] + 0.05)
+
+
+def many_deleted(command):
+    """What is kept of names that are gone has a bound: 30,000 more take no memory to speak of."""
+    with Server(command) as server, server.client() as client:
+        comes_and_goes(client, 0, 15_000)
+        before = server.resident()
+        comes_and_goes(client, 15_000, 45_000)
+        expect("more kilobytes", server.resident() - before, lambda more: more < 500)
+
+
+def comes_and_goes(client, begin, end):
+    """Files are made and deleted, a hundred at once."""
+    for first in range(begin, end, 100):
+        handles = asks(client, kazdrin.CREATE, [bytes([0, NEW]) + b"name%d" % number for number in range(first, first + 100)])
+        for code in (kazdrin.SET_DELETE, kazdrin.CLOSE):
+            asks(client, code, [kazdrin.pack("Q", handle) for handle in handles])
+
+
+def terminated(command):
+    """SIGTERM is a Stop: who is there stays until he goes, and what is marked goes with him. A second one doesn't wait for him."""
+    for signals in (1, 2):
+        server = Server(command)
+        try:
+            client = server.client()
+            expect("a mark", client.set_delete(client.create("marked", NEW).information).status, OK)
+            server.process.terminate()
+            if signals == 1:
+                expect("who is there", client.list(0).status, OK)
+                client.hang_up()
+            else:
+                while server.process.poll() is None:
+                    server.process.terminate()
+            words, _ = server.process.communicate(timeout=PATIENCE)
+            expect("its end", (server.process.returncode, words.split(b"\n")[-2]), (0, b"born 0 cleaned 0 leaks 0"))
+            expect("what is left", os.listdir(server.folder), [])
+        finally:
+            server.end()
+
+
+def counted(command):
+    """SIGUSR1 has it say what it did, and what is there: also while a read is held."""
+    with Server(command) as server, server.client() as client, server.client() as other:
+        handle = client.create("f", NEW).information
+        client.write(handle, 0, b"hello")
+        expect("load, attach", (client.load("hold").status, client.attach(0, 0, "h", "9").status), (OK, OK))
+        client.send(kazdrin.READ, kazdrin.pack("QQI", handle, 0, 5))
+        expect("another client", other.list(0).status, OK)
+        server.process.send_signal(signal.SIGUSR1)
+        expect("the counts", server.process.stdout.readline(), b"requests 6 connections 2 held 1 handles 1 born 0 cleaned 0\n")
+        expect("a detach", other.detach(0).status, OK)
+        expect("the read", client.take(), (OK, 5, b"hello"))
 
 
 def took(server, function, *words):
@@ -296,7 +354,7 @@ def sockets(server):
     return count
 
 
-ROWS = (none_left, large_files, memory, many_names, pipes, links_out, foreign_names, abandoned)
+ROWS = (none_left, large_files, memory, many_names, many_deleted, terminated, counted, pipes, links_out, foreign_names, abandoned)
 
 
 def tried(row, command):

@@ -32,7 +32,7 @@ from collections.abc import Sequence
 from types import TracebackType
 from typing import NamedTuple
 
-CREATE, READ, WRITE, QUERY_SIZE, SET_SIZE, FLUSH, LIST, SET_DELETE, CLOSE, RESTORE, RENAME = range(1, 12)
+CREATE, READ, WRITE, QUERY_SIZE, SET_SIZE, FLUSH, LIST, SET_DELETE, CLOSE, RESTORE, RENAME, LOOK = range(1, 13)
 LOAD, ATTACH, DETACH, UNLOAD, DISMOUNT, STOP = range(16, 22)
 REPLY, HELD_REPLY = 128, 129
 EXISTING, NEW, ALWAYS = range(3)
@@ -257,6 +257,10 @@ class Client:
     def rename(self, handle: int, path: str | bytes, replace: bool = True) -> Reply:
         """Gives the file another name; what has that is replaced, unless that is refused."""
         return self.ask(RENAME, pack("QB", handle, replace) + text(path))
+
+    def look(self, path: str | bytes, volume: int = 0) -> Reply:
+        """Looks at what is there without a handle; the information of a success is its size."""
+        return self.ask(LOOK, pack("B", volume) + text(path))
 
     def close(self, handle: int) -> Reply:
         """Closes a handle."""

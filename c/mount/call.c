@@ -125,6 +125,30 @@ int call_open(Call *call, const char *path, uint8_t mode)
     return 0;
 }
 
+/* A folder that only the server knows of is none here. */
+static int look(Call *call, const char *path, uint64_t *size)
+{
+    Reply reply;
+    Looked looked;
+    int error = call_enter(call, path, BESIDE_CREATES);
+    if (error == 0 && nodes_is_hidden(&call->mount->nodes, path))
+        error = ENOENT;
+    if (error == 0)
+        error = call_ask(call, request_look((uint8_t)call->mount->options.volume, path), &reply);
+    if (error != 0 || reply.status != KZS_OK)
+        return error != 0 ? error : errno_of_look(reply.status);
+    *size = reply.information;
+    return !looked_read(&reply, &looked) ? EPROTO : looked.kind == LOOKED_AT_FILE ? 0 : EIO;
+}
+
+int call_look(Call *call, const char *path, uint64_t *size)
+{
+    if (call->mount->knows_look)
+        return look(call, path, size);
+    int error = call_open(call, path, CREATE_EXISTING);
+    return error != 0 ? error : call_measure_and_close(call, size);
+}
+
 int call_measure(Call *call, uint64_t handle, uint64_t *size)
 {
     Reply reply;

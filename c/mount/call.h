@@ -40,6 +40,8 @@ int call_receive(Call *call, Reply *reply);
 int call_do(Call *call, Request request, Reply *reply);
 /* Goes in at the gate and opens the file: the handle is the call's, which closes it. ENOENT where a deleted file of that name is still open. */
 int call_open(Call *call, const char *path, uint8_t mode);
+/* Goes in at the gate and asks for the size of what is there: in one request, where the server knows it. */
+int call_look(Call *call, const char *path, uint64_t *size);
 int call_measure(Call *call, uint64_t handle, uint64_t *size);
 /* The size of the file that the call has open, which is closed: both requests go out together. */
 int call_measure_and_close(Call *call, uint64_t *size);

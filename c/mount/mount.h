@@ -28,7 +28,7 @@ typedef struct {
     Pool pool;
     Nodes nodes;
     Gates gates;
-    bool knows_rename; /* the server's frames have it */
+    bool knows_rename, knows_look; /* the server's frames have it */
     int below; /* the descriptor of the server's folder, or -1 */
     struct fuse_session *session;
 } Mount;

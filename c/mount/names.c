@@ -22,14 +22,18 @@ int open_path(Call *call, const char *path, bool is_home)
     return error != 0 ? error : call_open(call, path, CREATE_EXISTING);
 }
 
+static int look_at_path(Call *call, const char *path, uint64_t *size)
+{
+    int error = call_take_name(call, (Want){.may_be_reserved = true}, path, BESIDE_CREATES);
+    return error != 0 ? error : call_look(call, path, size);
+}
+
 /* The node is found while no deletion of the name can come between. */
 static int look_up(Call *call, const char *path, Node **node, uint64_t *size)
 {
     Kind kind = below_kind(call->mount, path);
     kind = kind != NOTHING ? kind : A_FILE; /* the server knows of it */
-    int error = kind == A_FILE ? open_path(call, path, false) : 0;
-    if (error == 0 && kind == A_FILE)
-        error = call_measure_and_close(call, size);
+    int error = kind == A_FILE ? look_at_path(call, path, size) : 0;
     if (error == ENOENT)
         nodes_missed(&call->mount->nodes, path);
     if (error != 0)
@@ -94,9 +98,9 @@ static int size_by_file(Call *call, File *file, const uint64_t *wanted, uint64_t
 
 static int size_by_path(Call *call, const char *path, const uint64_t *wanted, uint64_t *size)
 {
-    int error = open_path(call, path, false);
-    if (error == 0)
-        error = wanted ? size_by(call, call->handle, wanted, size) : call_measure_and_close(call, size);
+    int error = wanted ? open_path(call, path, false) : look_at_path(call, path, size);
+    if (error == 0 && wanted)
+        error = size_by(call, call->handle, wanted, size);
     call_end(call);
     return error;
 }

@@ -62,7 +62,8 @@ static int create(Call *call, const char *path, struct fuse_file_info *info, uin
         error = call_open(call, path, info->flags & O_EXCL ? CREATE_NEW : CREATE_ALWAYS);
     if (error == ENOENT && nodes_is_hidden(&call->mount->nodes, path))
         error = EBUSY;
-    if (error == 0)
+    *size = 0; /* of a new one */
+    if (error == 0 && !(info->flags & O_EXCL))
         error = call_measure(call, call->handle, size);
     if (error == 0 && (info->flags & O_TRUNC) && *size > 0) {
         error = cut(call);

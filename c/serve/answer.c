@@ -7,6 +7,7 @@
 #include "core/memory.h"
 #include "core/spell.h"
 #include "core/state.h"
+#include "filesystem/disk.h"
 #include "filesystem/fileobject.h"
 #include "lib/letters.h"
 #include "manager/disposition.h"
@@ -70,9 +71,39 @@ static size_t ascii_names(uint8_t *room, const uint8_t *bytes, size_t length)
     return used;
 }
 
+/* What comes of a step of a Look: the next one is due, or the reply is there. */
+static void go_on_looking(Link *link, KzReply reply)
+{
+    uint8_t bytes[LOOKED_BYTES];
+    bool is_open = link->step != LOOK_OPENS || reply.status == KZS_OK;
+    link->is_step_due = is_open && link->step != LOOK_CLOSES;
+    if (link->step == LOOK_OPENS && is_open) {
+        link->handle = reply.information;
+        link_add(link, link->handle);
+    }
+    if (link->step != LOOK_CLOSES) {
+        link->status = (uint8_t)reply.status;
+        link->size = reply.information;
+    }
+    if (link->is_step_due) {
+        link->step++;
+        return;
+    }
+    if (is_open && reply.status == KZS_OK)
+        link_forget(link, link->handle);
+    if (link->status == KZS_OK)
+        link_reply(link, KZS_OK, link->size, bytes, looked_put(bytes, &link->looked));
+    else
+        link_reply(link, link->status, 0, NULL, 0);
+}
+
 static void finish(Link *link, KzReply reply, const uint8_t *bytes, size_t length)
 {
     uint8_t names[KZ_BYTES];
+    if (link->code == FRAME_LOOK) {
+        go_on_looking(link, reply);
+        return;
+    }
     if (link->code == FRAME_LIST && length <= sizeof names && !is_ascii(bytes, length)) {
         length = reply.information = ascii_names(names, bytes, length);
         bytes = names;
@@ -82,6 +113,11 @@ static void finish(Link *link, KzReply reply, const uint8_t *bytes, size_t lengt
     if (link->code == FRAME_CLOSE && reply.status == KZS_OK)
         link_forget(link, link->handle);
     link_reply(link, (uint8_t)reply.status, reply.information, bytes, length);
+}
+
+static bool is_cleanup(const Link *link)
+{
+    return link->code == FRAME_CLOSE || (link->code == FRAME_LOOK && link->step == LOOK_CLOSES);
 }
 
 /* A request's own reply comes first, and then those of operations that it let go. */
@@ -94,9 +130,9 @@ static void take_reply(KzReply reply, const uint8_t *bytes, size_t length)
     if (reply.held) {
         link->is_waiting = true;
         link->operation = reply.operation;
-    } else if (link->is_waiting && link->code == FRAME_CLOSE) {
+    } else if (link->is_waiting && is_cleanup(link)) {
         link->is_waiting = false;
-        link->is_close_due = true;
+        link->is_step_due = true;
     } else {
         link->is_waiting = false;
         finish(link, reply, bytes, length);
@@ -112,16 +148,27 @@ void answer_begin(Link *links, size_t count)
     kz_set_sink(take_reply);
 }
 
+/* A path of a frame, as the host has it. */
+typedef struct {
+    char text[5 * LONGEST_PATH + 1];
+} Path;
+
+static void take_path(const Frame *frame, Path *path)
+{
+    char text[LONGEST_PATH + 1] = "";
+    memcpy(text, frame->text, frame->text_length);
+    kz_unspell_outside(path->text, sizeof path->text, text);
+}
+
 static void create(Link *link, const Frame *frame)
 {
-    char text[LONGEST_PATH + 1] = "", path[5 * LONGEST_PATH + 1];
-    memcpy(text, frame->text, frame->text_length);
-    kz_unspell_outside(path, sizeof path, text);
+    Path path;
+    take_path(frame, &path);
     KzCreate asked = kz_usual_create(kz_disposition_of(frame->mode), false);
     if (frame->mode == CREATE_NEW)
         asked.options &= ~FILE_NON_DIRECTORY_FILE; /* a folder of that name is in the way as a file is */
     asking = link;
-    kz_perform_create(frame->volume, path, &asked);
+    kz_perform_create(frame->volume, path.text, &asked);
 }
 
 /* To the name from the volume's root, as MoveFileEx has it: what has that name goes, also while it is open. */
@@ -131,10 +178,10 @@ static void rename_file(const Frame *frame)
         FILE_RENAME_INFORMATION head;
         WCHAR rest[2 * LONGEST_PATH];
     } said = {.head.Flags = FILE_RENAME_POSIX_SEMANTICS | (frame->mode ? FILE_RENAME_REPLACE_IF_EXISTS : 0)};
-    char text[LONGEST_PATH + 1] = "", path[5 * LONGEST_PATH + 1], whole[sizeof path + 60];
-    memcpy(text, frame->text, frame->text_length);
-    kz_unspell_outside(path, sizeof path, text);
-    snprintf(whole, sizeof whole, "/Device/%s/%s", kz_file_of(frame->handle)->volume->name, path);
+    Path path;
+    char whole[sizeof path + 60];
+    take_path(frame, &path);
+    snprintf(whole, sizeof whole, "/Device/%s/%s", kz_file_of(frame->handle)->volume->name, path.text);
     said.head.FileNameLength = kz_widen(said.head.FileName, whole);
     kz_ask_file(frame->handle, &(KzAsked){.major = IRP_MJ_SET_INFORMATION,
                                           .code = FileRenameInformationEx,
@@ -147,6 +194,24 @@ static void close_handle(Link *link)
 {
     asking = link;
     kz_close_file(link->handle);
+}
+
+/* A folder is told without being opened: filters see paths, and none of these. */
+static void look(Link *link, const Frame *frame)
+{
+    Path path;
+    KzFound found = {0};
+    take_path(frame, &path);
+    kz_look_in_folder(frame->volume, path.text, &found);
+    link->looked = (Looked){found.is_directory ? LOOKED_AT_FOLDER : LOOKED_AT_FILE, found.mode, found.read_at, found.written_at};
+    link->step = LOOK_OPENS;
+    link->status = KZS_OK;
+    link->size = 0;
+    uint8_t bytes[LOOKED_BYTES];
+    if (found.is_directory)
+        link_reply(link, KZS_OK, 0, bytes, looked_put(bytes, &link->looked));
+    else
+        create(link, frame); /* its mode is that of what exists */
 }
 
 /* The operation that a frame asks for, as an event. */
@@ -162,7 +227,7 @@ static KazdrinEvent event_of(const Frame *frame)
 
 static bool is_of_handle(uint8_t code)
 {
-    return code != FRAME_CREATE && code != FRAME_LIST;
+    return code != FRAME_CREATE && code != FRAME_LIST && code != FRAME_LOOK;
 }
 
 /* As fltd has it: a handle of another, a volume that isn't there, one that is going. There is one volume for all handles. */
@@ -183,6 +248,8 @@ static void operate(Link *link, const Frame *frame)
         link_reply(link, status, 0, NULL, 0);
     } else if (frame->code == FRAME_CREATE) {
         create(link, frame);
+    } else if (frame->code == FRAME_LOOK) {
+        look(link, frame);
     } else if (frame->code == FRAME_CLOSE) {
         close_handle(link);
     } else if (frame->code == FRAME_RENAME) {
@@ -227,7 +294,7 @@ static uint32_t attach(const Frame *frame, uint64_t *number)
 static bool is_anybody_waiting(void)
 {
     size_t at = 0;
-    while (at < all_count && !(all[at].socket != -1 && (all[at].is_waiting || all[at].is_close_due)))
+    while (at < all_count && !(all[at].socket != -1 && (all[at].is_waiting || all[at].is_step_due)))
         at++;
     return at < all_count;
 }
@@ -297,14 +364,22 @@ bool answer_frame(Link *link, const uint8_t *body, size_t length)
     return status == KZS_OK && frame.code == FRAME_STOP;
 }
 
-void answer_due_closes(void)
+static void make_step(Link *link)
 {
-    KZ_CALL_OF("a close");
+    link->is_step_due = false;
+    asking = link;
+    if (is_cleanup(link))
+        kz_close_file(link->handle);
+    else
+        kz_perform((KazdrinEvent){.event = KZE_QUERY_SIZE, .handle = link->handle}, "", 0, NULL);
+}
+
+void answer_due_steps(void)
+{
+    KZ_CALL_OF(kz_a_request);
     for (size_t at = 0; at < all_count; at++)
-        if (all[at].socket != -1 && all[at].is_close_due) {
-            all[at].is_close_due = false;
-            close_handle(&all[at]);
-        }
+        while (all[at].socket != -1 && all[at].is_step_due)
+            make_step(&all[at]);
 }
 
 void answer_tell_counts(void)
@@ -346,7 +421,7 @@ static void close_all(Link *link)
 
 void answer_end(Link *link)
 {
-    link->is_waiting = link->is_close_due = false;
+    link->is_waiting = link->is_step_due = false;
     close_all(link);
     for (size_t at = 0; at < link->handles_count; at++)
         link_add(&leftovers, link->handles[at]);

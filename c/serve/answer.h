@@ -8,8 +8,8 @@
 void answer_begin(Link *links, size_t count);
 /* Answers a frame, now or once a filter lets go of it. True: it is a Stop. */
 bool answer_frame(Link *link, const uint8_t *body, size_t length);
-/* Closes behind cleanups that were held. */
-void answer_due_closes(void);
+/* Closes behind cleanups that were held, and the steps of Looks. */
+void answer_due_steps(void);
 /* Prints how many requests there were, and what is there now. */
 void answer_tell_counts(void);
 /* The lazy writer's turn. */

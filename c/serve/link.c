@@ -9,13 +9,13 @@
 void link_begin(Link *link, int socket)
 {
     link->socket = socket;
-    link->is_ended = link->is_faulted = link->is_waiting = link->is_close_due = false;
+    link->is_ended = link->is_faulted = link->is_waiting = link->is_step_due = false;
     link->in_length = link->out_length = link->out_sent = link->handles_count = 0;
 }
 
 bool link_is_idle(const Link *link)
 {
-    return link->out_length == 0 && !link->is_waiting && !link->is_close_due && !link->is_faulted;
+    return link->out_length == 0 && !link->is_waiting && !link->is_step_due && !link->is_faulted;
 }
 
 void link_receive(Link *link)

@@ -7,6 +7,9 @@
 #define LINKS 32
 #define HANDLES 4096 /* as many as a manager has at once */
 
+/* A Look opens what is there, asks for its size, and closes it, as three requests do. */
+typedef enum { LOOK_OPENS, LOOK_MEASURES, LOOK_CLOSES } LookStep;
+
 typedef struct {
     int socket; /* -1: the place is free */
     bool is_ended; /* nothing more comes */
@@ -18,8 +21,12 @@ typedef struct {
     uint32_t number;
     uint64_t handle;
     bool is_waiting;    /* a filter holds its operation */
-    bool is_close_due;  /* that was a cleanup, and the close comes behind it */
+    bool is_step_due;   /* its next step comes: the close behind a cleanup, or a step of a Look */
     uint64_t operation;
+    LookStep step;
+    Looked looked;
+    uint8_t status; /* of a Look, with the size */
+    uint64_t size;
     uint64_t handles[HANDLES]; /* that it opened */
     size_t handles_count;
 } Link;

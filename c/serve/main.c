@@ -93,7 +93,7 @@ static Answered answer_one(Link *link)
     bool is_stop = answer_frame(link, body, length);
     link_drop_frame(link, length);
     link->is_faulted |= is_stop; /* nothing comes behind the reply to a Stop */
-    answer_due_closes();
+    answer_due_steps();
     return is_stop ? A_STOP : A_FRAME;
 }
 
@@ -123,7 +123,7 @@ static bool answer_all(void)
 /* Its client is gone while it waits, or nothing is left to be answered or sent. */
 static bool is_over(const Link *link, short events)
 {
-    if (link->is_waiting || link->is_close_due)
+    if (link->is_waiting || link->is_step_due)
         return (events & (POLLHUP | POLLERR)) != 0;
     return (link->is_ended || link->is_faulted) && link->out_length == 0;
 }

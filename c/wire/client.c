@@ -49,6 +49,11 @@ Request request_list(uint8_t volume)
     return spelled((Frame){.code = FRAME_LIST, .volume = volume});
 }
 
+Request request_look(uint8_t volume, const char *path)
+{
+    return spelled((Frame){.code = FRAME_LOOK, .volume = volume, .text = (const uint8_t *)path, .text_length = strlen(path)});
+}
+
 Request request_handle(uint8_t code, uint64_t handle)
 {
     return spelled((Frame){.code = code, .handle = handle});
@@ -61,6 +66,14 @@ size_t request_head(const Request *request, uint32_t number, uint8_t *room)
     put_number(room + 5, number, 4);
     memcpy(room + 9, request->fields, request->fields_length);
     return 9 + request->fields_length;
+}
+
+bool looked_read(const Reply *reply, Looked *looked)
+{
+    if (reply->length != LOOKED_BYTES)
+        return false;
+    *looked = (Looked){(LookedAt)reply->bytes[0], (uint16_t)number_at(reply->bytes + 1, 2), number_at(reply->bytes + 3, 8), number_at(reply->bytes + 11, 8)};
+    return looked->kind == LOOKED_AT_FILE || looked->kind == LOOKED_AT_FOLDER;
 }
 
 bool reply_read(const uint8_t *body, size_t length, uint32_t number, Reply *reply)

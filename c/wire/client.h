@@ -29,6 +29,7 @@ Request request_set_size(uint64_t handle, uint64_t size);
 /* The handle's file gets that name; what has it is replaced, if that is asked for. */
 Request request_rename(uint64_t handle, bool is_replacing, const char *path);
 Request request_list(uint8_t volume);
+Request request_look(uint8_t volume, const char *path);
 /* QuerySize, Flush, SetDelete, Close or Restore, by its code */
 Request request_handle(uint8_t code, uint64_t handle);
 
@@ -36,5 +37,8 @@ Request request_handle(uint8_t code, uint64_t handle);
 size_t request_head(const Request *request, uint32_t number, uint8_t *room);
 /* Reads a body; false: it is no reply to the request of that number. */
 bool reply_read(const uint8_t *body, size_t length, uint32_t number, Reply *reply);
+
+/* What a Look's reply says; false: it is none. */
+bool looked_read(const Reply *reply, Looked *looked);
 
 #endif

@@ -14,6 +14,7 @@ static const char *const forms[] = {
     [FRAME_CLOSE] = "h8",
     [FRAME_RESTORE] = "h8",
     [FRAME_RENAME] = "h8r1p-",
+    [FRAME_LOOK] = "v1p-",
     [FRAME_LOAD] = "n-",
     [FRAME_ATTACH] = "f1v1c1n-a-",
     [FRAME_DETACH] = "i2",

@@ -20,6 +20,7 @@ enum {
     FRAME_CLOSE = 9,
     FRAME_RESTORE = 10,
     FRAME_RENAME = 11,
+    FRAME_LOOK = 12,
     FRAME_LOAD = 16,
     FRAME_ATTACH = 17,
     FRAME_DETACH = 18,
@@ -51,6 +52,15 @@ typedef struct {
     const uint8_t *text, *altitude;
     size_t text_length, altitude_length;
 } Frame;
+
+/* What a Look's reply has as bytes: what is there, its mode, and when it was read and written last, in nanoseconds since 1970. */
+typedef enum { LOOKED_AT_NOTHING, LOOKED_AT_FILE, LOOKED_AT_FOLDER } LookedAt;
+typedef struct {
+    LookedAt kind;
+    uint16_t mode;
+    uint64_t read, written;
+} Looked;
+#define LOOKED_BYTES 19
 
 /* The fields of a request in their order, by its code: of each the first letter of its name ('c' is the count of a name's letters), and how many bytes it has, or '-' for a text.
  * NULL: there is no such code. */

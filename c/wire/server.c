@@ -100,6 +100,8 @@ static uint8_t refusal(const Frame *frame)
         if (frame->mode > (frame->code == FRAME_CREATE ? CREATE_ALWAYS : 1))
             return KZS_BAD_REQUEST;
         return is_path(frame->text, frame->text_length) ? KZS_OK : KZS_BAD_PATH;
+    case FRAME_LOOK:
+        return is_path(frame->text, frame->text_length) ? KZS_OK : KZS_BAD_PATH;
     case FRAME_READ:
         return frame->length > LONGEST_TRANSFER ? KZS_BAD_REQUEST : KZS_OK;
     case FRAME_WRITE:
@@ -122,6 +124,15 @@ uint8_t frame_read(const uint8_t *body, size_t length, Frame *frame)
     if (!take_fields(&fields, frame) || fields.is_short || fields.left > 0)
         return KZS_BAD_REQUEST;
     return refusal(frame);
+}
+
+size_t looked_put(uint8_t *room, const Looked *looked)
+{
+    put_number(room, looked->kind, 1);
+    put_number(room + 1, looked->mode, 2);
+    put_number(room + 3, looked->read, 8);
+    put_number(room + 11, looked->written, 8);
+    return LOOKED_BYTES;
 }
 
 size_t frame_reply(uint8_t *room, uint32_t number, uint8_t status, uint64_t information, const uint8_t *bytes, size_t length)

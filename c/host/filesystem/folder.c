@@ -226,6 +226,11 @@ static int64_t time_of(const struct timespec *time)
     return (time->tv_sec + 11644473600LL) * 10000000LL + time->tv_nsec / 100;
 }
 
+static uint64_t nanoseconds(const struct timespec *time)
+{
+    return (uint64_t)time->tv_sec * 1000000000u + (uint64_t)time->tv_nsec;
+}
+
 void kz_folder_look(const KzFolder *folder, const char *path, KzFound *found)
 {
     struct stat is;
@@ -235,7 +240,7 @@ void kz_folder_look(const KzFolder *folder, const char *path, KzFound *found)
         return;
     bool is_seen = fstat(file, &is) == 0, is_directory = is_seen && S_ISDIR(is.st_mode), is_file = is_seen && S_ISREG(is.st_mode);
     if (is_directory || is_file)
-        *found = (KzFound){.is_there = true, .is_directory = is_directory, .size = is_file ? (uint64_t)is.st_size : 0, .written = time_of(&is.st_mtim)};
+        *found = (KzFound){.is_there = true, .is_directory = is_directory, .size = is_file ? (uint64_t)is.st_size : 0, .written = time_of(&is.st_mtim), .mode = is.st_mode & 07777, .read_at = nanoseconds(&is.st_atim), .written_at = nanoseconds(&is.st_mtim)};
     else
         found->is_other = true;
     if (*path)

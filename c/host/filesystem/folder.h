@@ -29,6 +29,8 @@ typedef struct {
     bool is_other; /* what is there is neither a file nor a directory of the folder: a pipe, a link that leads out */
     uint64_t size;
     int64_t written; /* as the kit counts time */
+    uint16_t mode;
+    uint64_t read_at, written_at; /* nanoseconds since 1970 */
 } KzFound;
 
 void kz_folder_look(const KzFolder *folder, const char *path, KzFound *found);

@@ -25,7 +25,7 @@ c/build.sh --serve "${words[@]}" "$room/server" "$room"/*.c || exit 2
 status=0
 $tests/serve/frames.py --count "${COUNT:-300}" "$fltd" "$room/server" || status=1
 c/build.sh --serve "$room/plain" "$room"/*.c || exit 2
-$tests/serve/renames.py "$room/plain" || status=1
+$tests/serve/rows.py "$room/plain" || status=1
 $tests/serve/touches.py "$room/plain" || status=1
 $tests/serve/limits.py ${KAZDRIN_QUICK:+--without many_names,many_deleted} "$room/plain" || status=1
 # A server in Rattle dies by SIGXFSZ, waits in a FIFO that is swapped in, and has no list beside a name that isn't UTF-8 (docs/SERVER.md). One that is refused memory may end a connection.

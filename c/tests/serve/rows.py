@@ -1,12 +1,13 @@
 #!/usr/bin/env python3
-"""What a server answers to the frame Rename: renames.py SERVER
+"""What a server answers to the frames Rename and Look: rows.py SERVER
 
 SERVER is a program that takes a folder and a socket, as fltd does, and has filters by the names `shift`, `hold`, `guard` and `names` (c/tests/serve/drivers). A row is a list of steps over
 a folder with FILES: a connection, a call of the client, its words, and what its reply says, as far as that is given: a status, the information, the bytes. `$x` keeps the
-information as x, and `x` in a word's place is that. `below` looks at the folder itself. The last line is 'N passed, M failed'."""
+information as x, and `x` in a word's place is that. `below` looks at the folder itself, and `looked` compares a Look with it. The last line is 'N passed, M failed'."""
 import os
 import shlex
 import shutil
+import struct
 import subprocess
 import sys
 import tempfile
@@ -45,7 +46,22 @@ def raw(fields):
     return "a", "ask", (kazdrin.RENAME, fields), (BAD_REQUEST,)
 
 
+def looked(name):
+    """A step that looks at what is there."""
+    return "looked", name
+
+
 ROWS = {
+    "a look": [looked("f"), looked("t"), looked("d/in"), looked("d"), ("a", "look", ("no",), (NOT_FOUND, 0)), ("a", "look", ("d/no",), (NOT_FOUND, 0)), ("a", "look", ("f/x",), (NOT_FOUND, 0)), ("a", "look", ("pipe",), (FAULT, 0)),
+               ("a", "look", ("out",), (FAULT, 0)), ("a", "look", ("a//b",), (BAD_PATH, 0)), ("a", "look", ("",), (BAD_PATH, 0)), ("a", "look", ("f", 9), (7, 0)), ("a", "ask", (kazdrin.LOOK,), (BAD_REQUEST, 0)),
+               opened("h"), ("a", "write", ("h", 9, b"!"), (OK, 1)), looked("f"), ("a", "look", ("f",), (OK, 10)), ("a", "set_delete", ("h",), (OK,)), ("b", "look", ("f",), (16, 0)), ("a", "restore", ("h",), (OK,)), ("b", "look", ("f",), (OK, 10))],
+    "a look leaves no handle": [("a", "look", ("f",), (OK, 4))] * 4200 + [opened("h"), bytes_of("h", b"from"), ("a", "rename", ("h", "x"), (OK,))],
+    "filters hear of a look": attached("guard") + [("a", "look", ("deny/x",), (DENIED, 0)), ("a", "look", ("d/in",), (OK, 2))],
+    "a look is held": [opened("h"), ("a", "rename", ("h", "late"), (OK,))] + attached("late") + [("b", "send", (kazdrin.LOOK, b"\0late"), None), ("a", "list", (), (OK,)), ("a", "flush", ("h",), (OK,)),
+                       ("a", "list", (), (OK,)), ("a", "flush", ("h",), (OK,)), ("b", "take", (), (OK, 4)), ("b", "list", (), (OK,))],
+    "who waits for a look goes": [opened("h"), ("a", "rename", ("h", "late"), (OK,))] + attached("late") + [("b", "send", (kazdrin.LOOK, b"\0late"), None), ("a", "list", (), (OK,)), ("b", "hang_up", (), None), ("a", "list", (), (OK,)),
+                                                                                                   ("a", "flush", ("h",), (OK,)), ("a", "rename", ("h", "t"), (OK,)), below(t=b"from", d__in=b"in")],
+    "a volume that goes isn't looked at": [("b", "dismount", (), (OK,)), ("a", "look", ("f",), (GOING, 0))],
     "a new name": [opened("h"), ("a", "rename", ("h", "new"), (OK, 0, b"")), bytes_of("h", b"from"), ("a", "write", ("h", 0, b"FROM"), (OK, 4)), below(new=b"FROM", t=b"to there", d__in=b"in"),
                    ("a", "create", ("f", 0), (NOT_FOUND,)), ("a", "close", ("h",), (OK,)), opened("n", "new"), bytes_of("n", b"FROM")],
     "twice": [opened("h"), ("a", "rename", ("h", "new"), (OK,)), ("a", "rename", ("h", "d/newer"), (OK,)), ("a", "rename", ("h", "f"), (OK,)), below(f=b"from", t=b"to there", d__in=b"in")],
@@ -117,6 +133,14 @@ class Server:
                 return f"{reply!r:.200}, and not {wanted!r:.200}"
         return ""
 
+    def looked(self, name):
+        """What is wrong with a look at what is there, or nothing."""
+        is_there = os.stat(os.path.join(self.folder, name))
+        is_folder = os.path.isdir(os.path.join(self.folder, name))
+        reply = self.clients["a"].look(name)
+        wanted = (OK, 0 if is_folder else is_there.st_size, struct.pack(">BHQQ", 2 if is_folder else 1, is_there.st_mode & 0o7777, is_there.st_atime_ns, is_there.st_mtime_ns))
+        return "" if reply == wanted else f"{reply}, and not {wanted}"
+
     def end(self):
         """Its exit status, and its last line."""
         for client in self.clients.values():
@@ -137,6 +161,8 @@ def tried(command, name, steps):
     for step in steps:
         if step[0] == "below":
             wrong = "" if server.files() == step[1] else f"{server.files()}, and not {step[1]}"
+        elif step[0] == "looked":
+            wrong = server.looked(step[1])
         else:
             wrong = server.play(*step)
         if wrong:

@@ -17,7 +17,7 @@ typedef struct {
     char *socket;
     unsigned connections, volume, mode;
     bool is_mode_given;
-    int is_cached, has_copyrename, has_memtimes, has_memmodes, is_kept, is_for_others;
+    int is_cached, has_copyrename, has_memtimes, has_memmodes, is_kept, is_for_others, is_shared;
     double attr; /* seconds that names and attributes are kept by the kernel */
     char *folders, *below;
 } Options;

@@ -10,6 +10,9 @@
 #define FEWEST_CONNECTIONS 4
 /* No mode is given. */
 #define NO_MODE UINT_MAX
+/* No seconds are given: one mount alone keeps names and sizes for a second. */
+#define NO_SECONDS (-1.5)
+#define USUAL_SECONDS 1
 
 #define OPTION(text, field, value) {text, offsetof(Options, field), value}
 
@@ -18,6 +21,7 @@ static const struct fuse_opt known[] = {
     OPTION("volume=%u", volume, 0),
     OPTION("mode=%o", mode, 0),
     OPTION("attr=%lf", attr, 0),
+    OPTION("shared", is_shared, 1),
     OPTION("folders=%s", folders, 0),
     OPTION("cached", is_cached, 1),
     OPTION("copyrename", has_copyrename, 1),
@@ -36,7 +40,8 @@ void options_usage(FILE *to)
           "Mounts the folder that a server serves at SOCKET. It goes to the background, unless -f is given; fusermount3 -u MOUNTPOINT ends it.\n"
           "\n"
           "  cached           the kernel keeps pages of a file until it is opened anew: for shared mappings\n"
-          "  attr=S           it keeps names and sizes for S seconds\n"
+          "  attr=S           it keeps names and sizes for S seconds (1)\n"
+          "  shared           others change files below: it keeps none, unless attr is given\n"
           "  folders=A:B:B/C  these names are folders\n"
           "  copyrename       a rename copies the file, and deletes the old name\n"
           "  memtimes         given times are kept until the unmount\n"
@@ -79,11 +84,13 @@ static bool is_in_range(const Options *options)
 
 bool options_read(struct fuse_args *words, Options *options)
 {
-    *options = (Options){.connections = 16, .mode = NO_MODE};
+    *options = (Options){.connections = 16, .mode = NO_MODE, .attr = NO_SECONDS};
     if (fuse_opt_parse(words, options, known, take_word) != 0)
         return false;
     if (options->is_kept)
         options->has_memtimes = options->has_memmodes = 1;
+    if (options->attr == NO_SECONDS)
+        options->attr = options->is_shared ? 0 : USUAL_SECONDS;
     options->is_mode_given = options->mode != NO_MODE;
     if (!options->is_mode_given)
         options->mode = 0644;

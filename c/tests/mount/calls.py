@@ -4,12 +4,13 @@ import fcntl
 import mmap
 import os
 import resource
+import signal
 import socket
 import subprocess
 import sys
 import time
 
-from ground import Ground, put, shifted, until, whole
+from ground import Ground, outcome, put, shifted, until, whole
 
 LIBC = ctypes.CDLL(None, use_errno=True)
 LARGEST = 1 << 40
@@ -399,8 +400,46 @@ def run_program(path):
     return subprocess.run([path], timeout=120).returncode
 
 
+def own_changes(tally, tools):
+    """A mount that is alone keeps names and attributes, and what it changes itself is right at once."""
+    with Ground(tally, tools, "below={host}", "keep", "attr=60", alone=True) as ground:
+        at, call = ground.at, tally.call
+        size = lambda name: os.stat(at(name)).st_size  # noqa: E731
+        put(at("a"), b"first")
+        call("a look", 5, size, "a")
+        ground.server.send_signal(signal.SIGSTOP)
+        call("a second one asks nobody", 5, size, "a")
+        ground.server.send_signal(signal.SIGCONT)
+        file = os.open(at("a"), os.O_RDWR | os.O_APPEND)
+        os.write(file, b"more")
+        call("the size of what is written", (9, 9), lambda: (size("a"), os.fstat(file).st_size))
+        os.ftruncate(file, 3)
+        call("of what is cut", (3, 3), lambda: (size("a"), os.fstat(file).st_size))
+        put(at("b"), b"another")
+        if tools.renames != "all":  # what is open keeps its name
+            os.close(file)
+            file = -1
+        call("of what is replaced", 7, size, "b")
+        call("of what replaces it", (None, 3), lambda: (os.rename(at("a"), at("b")), size("b")))
+        call("the old name", "ENOENT", size, "a")
+        if file != -1:
+            os.close(file)
+        os.unlink(at("b"))
+        call("a name that is gone", "ENOENT", size, "b")
+        put(at("b"), b"anew")
+        call("and comes back", 4, size, "b")
+        call("a time", (None, 7), lambda: (os.utime(at("b"), (5, 7)), os.stat(at("b")).st_mtime))
+        call("a mode", (None, 0o600), lambda: (os.chmod(at("b"), 0o600), os.stat(at("b")).st_mode & 0o777))
+        links = os.stat(ground.mount).st_nlink
+        os.mkdir(at("d"))
+        call("a folder in a folder", links + 1, lambda: os.stat(ground.mount).st_nlink)
+        os.rmdir(at("d"))
+        call("that is gone", (links, "ENOENT"), lambda: (os.stat(ground.mount).st_nlink, outcome(os.stat, at("d"))))
+
+
 def run(tally, tools):
     """Calls one by one."""
+    own_changes(tally, tools)
     plain(tally, tools)
     plain(tally, tools, "cached")
     optional(tally, tools)

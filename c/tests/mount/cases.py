@@ -419,7 +419,7 @@ def plain(tally):
 def above(tally, tools):
     """The mount's. Another user comes in where root lets him."""
     options = ("below={host}", "keep") + (("allow_other",) if os.getuid() == 0 else ())
-    with Ground(tally, tools, *options, patience=900) as ground:
+    with Ground(tally, tools, *options, patience=900, alone=True) as ground:
         os.chmod(ground.room, 0o755)
         try_rows(tally, "the mount", ground.mount, DIFFERENT)
         fill(ground.mount)

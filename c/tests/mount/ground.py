@@ -80,9 +80,9 @@ def wait_for_reads(path, *tasks):
 
 
 class Ground:
-    """A server over an empty folder, with a mount at `mount`. `{host}` in an option is that folder. After `patience` seconds both are killed, so that nothing waits for ever."""
+    """A server over an empty folder, with a mount at `mount`, which is `shared` unless it is said to be alone. `{host}` in an option is that folder. After `patience` seconds both are killed, so that nothing waits for ever."""
 
-    def __init__(self, tally, tools, *options, patience=600, place=None, server=None):
+    def __init__(self, tally, tools, *options, patience=600, place=None, server=None, alone=False):
         self.tally = tally
         self.tools = tools
         self.server_command = server or [tools.server]
@@ -90,7 +90,7 @@ class Ground:
         self.host, self.mount, self.socket = (os.path.join(self.room, name) for name in ("host", "mount", "socket"))
         os.mkdir(self.host)
         os.mkdir(self.mount)
-        self.options = options
+        self.options = options + (() if alone else ("shared",))
         self.killed = False
         self.server = self.mounted = None
         self.watch = threading.Timer(patience, self.kill)

@@ -234,8 +234,8 @@ def run(tally, tools):
     """Random operations, alone and side by side, and with pages that the kernel keeps. It shows zeros where nothing was written, whatever a filter says: so nothing shifts there."""
     seed = tools.seed or random.randrange(1 << 32)
     filters = {"meter": 200, "carry": 150, "guard": 300}
-    for options, prefixes, hole in (((), "m", b"\xff"), ((), "abcd", b"\xff"), (("cached",), "wxyz", b"\0")):
-        with Ground(tally, tools, *options, patience=300 + tools.count / 5) as ground:
+    for options, prefixes, hole in (((), "m", b"\xff"), (("shared",), "abcd", b"\xff"), (("cached",), "wxyz", b"\0")):
+        with Ground(tally, tools, *options, patience=300 + tools.count / 5, alone=True) as ground:
             ground.attach(**(filters if hole == b"\0" else filters | {"shift": 100}))
             found = beside(ground, tools.count // len(prefixes), seed, prefixes, hole, tools.renames)
             tally.note(f"random operations {options}, seed {seed}", found, "")

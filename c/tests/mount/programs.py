@@ -138,7 +138,7 @@ def run(tally, tools):
             for name in os.listdir(ground.mount):
                 os.unlink(ground.at(name))
             fio(tally, ground, ground.room)
-    with Ground(tally, tools, "below={host}", "copyrename", "memtimes", patience=600) as ground:
+    with Ground(tally, tools, "below={host}", "copyrename", "memtimes", patience=600, alone=True) as ground:
         ground.attach(shift=100, meter=200, carry=150)
         copies(tally, ground, ground.room)
     with Ground(tally, tools, "below={host}", "cached", "keep", "mode=0755", patience=600) as ground:

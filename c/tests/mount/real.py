@@ -142,7 +142,7 @@ def main():
     parser.add_argument("names", nargs="*", help="some of them, by a part of their names")
     tools = parser.parse_args()
     tally = Tally()
-    with Ground(tally, tools, "below={host}", "cached", "keep", "mode=0755", "allow_other", patience=3600) as ground:
+    with Ground(tally, tools, "below={host}", "cached", "keep", "mode=0755", "allow_other", patience=3600, alone=True) as ground:
         os.chmod(ground.room, 0o755)
         ground.attach(**dict(word.split("@") for word in tools.filters.split(",") if word))
         all_of(tally, tools, ground)

@@ -324,7 +324,7 @@ def main():
         words.is_small = subprocess.run(["mount", "-t", "tmpfs", "-o", "size=16m", "none", place], check=False).returncode == 0
     tally = Tally()
     try:
-        with Ground(tally, words, "below={host}", patience=words.seconds + 300, place=place if words.is_small else None) as ground:
+        with Ground(tally, words, "below={host}", patience=words.seconds + 300, place=place if words.is_small else None, alone=True) as ground:
             counts = Soak(ground, words).run()
     finally:
         subprocess.run(["umount", "-l", place], capture_output=True, check=False)

@@ -52,7 +52,7 @@ void below_tell_size(fuse_req_t request, fuse_ino_t number)
         fuse_reply_err(request, errno);
         return;
     }
-    room.f_namemax = LONGEST_PATH;
+    room.f_namemax = LONGEST_NAME;
     fuse_reply_statfs(request, &room);
 }
 
@@ -129,7 +129,7 @@ bool below_is_folder(const Mount *mount, const char *path)
 /* The folder that a path lies in, to be written out, and the last part of the path: -1 with errno. */
 static int open_above(const Mount *mount, const char *path, const char **name)
 {
-    char above[LONGEST_PATH + 1] = "";
+    char above[LONGEST_WIDE_PATH + 1] = "";
     const char *slash = strrchr(path, '/');
     *name = slash ? slash + 1 : path;
     if (slash)

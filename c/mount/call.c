@@ -184,15 +184,23 @@ int call_measure_and_close(Call *call, uint64_t *size)
     return error != 0 ? error : errno_of(status);
 }
 
-bool call_is_known(Mount *mount, Request request)
+/* What comes of a request that can't succeed. */
+static uint8_t status_of(Mount *mount, Request request)
 {
-    Reply reply;
+    Reply reply = {.status = KZS_BAD_REQUEST};
     Call call = call_on(mount, NULL);
-    int error = call_take(&call, (Want){0});
-    if (error == 0)
-        error = call_ask(&call, request, &reply);
+    if (call_take(&call, (Want){0}) == 0)
+        call_ask(&call, request, &reply);
     call_end(&call);
-    return error == 0 && reply.status != KZS_BAD_REQUEST;
+    return reply.status;
+}
+
+/* No filter hears of these: there is no such handle, and no such path. */
+void call_learn(Mount *mount)
+{
+    mount->knows_rename = status_of(mount, request_rename(UINT64_MAX, false, "x")) != KZS_BAD_REQUEST;
+    mount->knows_look = status_of(mount, request_look((uint8_t)mount->options.volume, "a//b")) != KZS_BAD_REQUEST;
+    mount->is_wide = status_of(mount, request_rename(UINT64_MAX, false, "\u00e9")) == KZS_NO_HANDLE;
 }
 
 void call_leave(Call *call)

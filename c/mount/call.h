@@ -45,8 +45,8 @@ int call_look(Call *call, const char *path, uint64_t *size);
 int call_measure(Call *call, uint64_t handle, uint64_t *size);
 /* The size of the file that the call has open, which is closed: both requests go out together. */
 int call_measure_and_close(Call *call, uint64_t *size);
-/* Whether the server knows such a request. */
-bool call_is_known(Mount *mount, Request request);
+/* Asks the server what it knows. */
+void call_learn(Mount *mount);
 void call_leave(Call *call);
 /* Closes a handle of the node's file: alone where the file is deleted. */
 void call_close(Call *call, Node *node, uint64_t handle);

@@ -56,7 +56,7 @@ static int add_folders(fuse_req_t request, Listing *listing, const char *list, c
     const char *item = list ? list : "";
     while (*item && error == 0) {
         size_t length = strcspn(item, ":");
-        char path[LONGEST_PATH + 1];
+        char path[LONGEST_WIDE_PATH + 1];
         snprintf(path, sizeof path, "%.*s", (int)length, item);
         if (lies_in(item, length, folder))
             error = add(request, listing, folder[0] ? path + strlen(folder) + 1 : path, path, A_FOLDER);
@@ -67,7 +67,7 @@ static int add_folders(fuse_req_t request, Listing *listing, const char *list, c
 
 static bool is_among(const char *names, const char *name)
 {
-    char line[LONGEST_PATH + 3];
+    char line[LONGEST_WIDE_PATH + 3];
     snprintf(line, sizeof line, "\n%s\n", name);
     return strstr(names, line) != NULL;
 }
@@ -87,8 +87,8 @@ static int add_names(fuse_req_t request, Mount *mount, Listing *listing, char *n
 static int add_entry(fuse_req_t request, Listing *listing, const char *folder, const char *name, bool has_files, bool has_others)
 {
     Mount *mount = fuse_req_userdata(request);
-    char path[LONGEST_PATH + 1];
-    if (strcmp(name, ".") == 0 || strcmp(name, "..") == 0 || path_join(path, folder, name) != 0 || path_is_in(mount->options.folders, path))
+    char path[LONGEST_WIDE_PATH + 1];
+    if (strcmp(name, ".") == 0 || strcmp(name, "..") == 0 || path_join(path, folder, name, mount->is_wide) != 0 || path_is_in(mount->options.folders, path))
         return 0;
     Kind kind = below_kind(mount, path);
     bool is_shown = kind == A_FILE ? has_files && !nodes_is_hidden(&mount->nodes, path) : kind != NOTHING && has_others;

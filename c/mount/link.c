@@ -13,7 +13,7 @@
 void link_make(fuse_req_t request, const char *target, fuse_ino_t folder, const char *name)
 {
     Mount *mount = fuse_req_userdata(request);
-    char path[LONGEST_PATH + 1];
+    char path[LONGEST_WIDE_PATH + 1];
     int error = fuse_req_ctx(request)->uid == getuid() ? path_of(mount, folder, name, path) : EPERM;
     if (error == 0)
         error = below_make_link(mount, path, target);

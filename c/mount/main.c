@@ -110,8 +110,7 @@ static int serve_with_pool(Mount *mount, struct fuse_args *words, const struct f
         return cannot_reach(mount->options.socket, error);
     nodes_open(&mount->nodes);
     gates_open(&mount->gates);
-    mount->knows_rename = call_is_known(mount, request_rename(UINT64_MAX, false, "x"));
-    mount->knows_look = call_is_known(mount, request_look((uint8_t)mount->options.volume, "a//b"));
+    call_learn(mount);
     mount->session = fuse_session_new(words, &operations, sizeof operations, mount);
     int status = mount->session ? serve(mount, line) : WRONG_WORDS;
     pool_close(&mount->pool);

@@ -29,6 +29,7 @@ typedef struct {
     Nodes nodes;
     Gates gates;
     bool knows_rename, knows_look; /* the server's frames have it */
+    bool is_wide;                  /* and its paths letters beyond ASCII */
     int below; /* the descriptor of the server's folder, or -1 */
     struct fuse_session *session;
 } Mount;

@@ -10,10 +10,10 @@
 
 #include <errno.h>
 
-int path_of(Mount *mount, fuse_ino_t folder, const char *name, char path[LONGEST_PATH + 1])
+int path_of(Mount *mount, fuse_ino_t folder, const char *name, char path[LONGEST_WIDE_PATH + 1])
 {
     Look look = look_at(mount, folder);
-    return look.kind == A_FOLDER ? path_join(path, look.path, name) : ENOTDIR;
+    return look.kind == A_FOLDER ? path_join(path, look.path, name, mount->is_wide) : ENOTDIR;
 }
 
 int open_path(Call *call, const char *path, bool is_home)
@@ -45,7 +45,7 @@ static int look_up(Call *call, const char *path, Node **node, uint64_t *size)
 void name_look_up(fuse_req_t request, fuse_ino_t folder, const char *name)
 {
     Call call = call_of(request);
-    char path[LONGEST_PATH + 1];
+    char path[LONGEST_WIDE_PATH + 1];
     Node *node = NULL;
     uint64_t size = 0;
     int error = path_of(call.mount, folder, name, path);
@@ -264,7 +264,7 @@ int unlink_file(fuse_req_t request, const char *path)
 void name_unlink(fuse_req_t request, fuse_ino_t folder, const char *name)
 {
     Mount *mount = fuse_req_userdata(request);
-    char path[LONGEST_PATH + 1];
+    char path[LONGEST_WIDE_PATH + 1];
     int error = path_of(mount, folder, name, path);
     Kind kind = error == 0 ? below_kind(mount, path) : NOTHING;
     if (kind == A_FOLDER)

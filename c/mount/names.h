@@ -17,7 +17,7 @@ int delete_path(Call *call, const char *path, const char *moved_to);
 /* Opens what is there, on a call's line that is alone in its gate: 0 or an errno. */
 int open_inside(Call *call, const char *path);
 /* The path of a name in a folder: 0 or an errno. */
-int path_of(Mount *mount, fuse_ino_t folder, const char *name, char path[LONGEST_PATH + 1]);
+int path_of(Mount *mount, fuse_ino_t folder, const char *name, char path[LONGEST_WIDE_PATH + 1]);
 /* Takes a line, which is to be a home or not, and opens what is there: 0 or an errno. */
 int open_path(Call *call, const char *path, bool is_home);
 

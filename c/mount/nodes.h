@@ -44,7 +44,7 @@ typedef struct {
 
 /* A node as it was at one moment. */
 typedef struct {
-    char path[LONGEST_PATH + 1];
+    char path[LONGEST_WIDE_PATH + 1];
     Kind kind;
     bool is_deleted, has_times, has_mode, has_owner;
     struct timespec changed, read, renewed;

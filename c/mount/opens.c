@@ -101,7 +101,7 @@ static void own(Mount *mount, fuse_req_t request, Node *node)
 void data_create(fuse_req_t request, fuse_ino_t folder, const char *name, mode_t mode, struct fuse_file_info *info)
 {
     Call call = call_of(request);
-    char path[LONGEST_PATH + 1];
+    char path[LONGEST_WIDE_PATH + 1];
     Node *node = NULL;
     uint64_t size = 0;
     int error = path_of(call.mount, folder, name, path);

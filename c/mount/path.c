@@ -13,19 +13,13 @@ uint64_t hash_of(const char *path)
     return hash;
 }
 
-static bool is_printable(const char *name)
-{
-    while (*name >= ' ' && *name <= '~')
-        name++;
-    return *name == '\0';
-}
-
-int path_join(char room[LONGEST_PATH + 1], const char *folder, const char *name)
+int path_join(char room[LONGEST_WIDE_PATH + 1], const char *folder, const char *name, bool is_wide)
 {
     size_t folder_length = strlen(folder), length = strlen(name), slash = folder_length > 0 ? 1 : 0;
-    if (folder_length + slash + length > LONGEST_PATH)
+    const uint8_t *text = (const uint8_t *)name;
+    if (length > LONGEST_NAME || folder_length + slash + length > (is_wide ? LONGEST_WIDE_PATH : LONGEST_PATH))
         return ENAMETOOLONG;
-    if (!is_printable(name))
+    if (!(is_wide ? is_wide_path : is_path)(text, length))
         return EINVAL;
     memcpy(room, folder, folder_length);
     room[folder_length] = '/';

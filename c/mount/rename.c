@@ -147,7 +147,7 @@ static int rename_any(fuse_req_t request, Mount *mount, const char *path, const 
 void name_rename(fuse_req_t request, fuse_ino_t folder, const char *name, fuse_ino_t to_folder, const char *to, unsigned flags)
 {
     Mount *mount = fuse_req_userdata(request);
-    char path[LONGEST_PATH + 1], to_path[LONGEST_PATH + 1];
+    char path[LONGEST_WIDE_PATH + 1], to_path[LONGEST_WIDE_PATH + 1];
     bool is_new = flags == 1; /* RENAME_NOREPLACE */
     int error = path_of(mount, folder, name, path);
     if (error == 0)

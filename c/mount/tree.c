@@ -13,8 +13,8 @@
 #include <stdlib.h>
 #include <string.h>
 
-/* Folders in folders: a path of 255 letters has at most so many parts. */
-#define DEEPEST (LONGEST_PATH / 2 + 1)
+/* Folders in folders: a path has at most so many parts. */
+#define DEEPEST (LONGEST_WIDE_PATH / 2 + 1)
 
 /* The node of a folder that was made: its mode is kept, and its owner where owners are. */
 static Node *node_made(Mount *mount, fuse_req_t request, const char *path, mode_t mode)
@@ -33,7 +33,7 @@ static Node *node_made(Mount *mount, fuse_req_t request, const char *path, mode_
 void tree_make_folder(fuse_req_t request, fuse_ino_t folder, const char *name, mode_t mode)
 {
     Mount *mount = fuse_req_userdata(request);
-    char path[LONGEST_PATH + 1];
+    char path[LONGEST_WIDE_PATH + 1];
     int error = path_of(mount, folder, name, path);
     if (error == 0)
         error = below_make_folder(mount, path, mode);
@@ -64,7 +64,7 @@ static int remove_folder(Mount *mount, const char *path)
 void tree_remove_folder(fuse_req_t request, fuse_ino_t folder, const char *name)
 {
     Mount *mount = fuse_req_userdata(request);
-    char path[LONGEST_PATH + 1];
+    char path[LONGEST_WIDE_PATH + 1];
     int error = path_of(mount, folder, name, path);
     if (error == 0)
         error = remove_folder(mount, path);
@@ -104,10 +104,10 @@ static int each(Mount *mount, const char *path, const char *to, unsigned depth, 
     char *names = depth < DEEPEST ? names_in(mount, path) : NULL;
     int error = names ? 0 : EXDEV;
     for (const char *name = names; name && *name && error == 0; name += strlen(name) + 1) {
-        char from[LONGEST_PATH + 1], there[LONGEST_PATH + 1];
-        error = path_join(from, path, name);
+        char from[LONGEST_WIDE_PATH + 1], there[LONGEST_WIDE_PATH + 1];
+        error = path_join(from, path, name, mount->is_wide);
         if (error == 0)
-            error = path_join(there, to, name);
+            error = path_join(there, to, name, mount->is_wide);
         if (error == 0)
             error = visit(mount, from, there, depth + 1);
     }

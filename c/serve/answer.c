@@ -54,8 +54,8 @@ static size_t put_name(char *room, size_t size, const uint8_t *name, size_t leng
     return strlen(room);
 }
 
-/* The names of a list that a frame may have: a path has no letters beyond ASCII there. */
-static size_t ascii_names(uint8_t *room, const uint8_t *bytes, size_t length)
+/* The names of a list as a frame has them. */
+static size_t put_names(uint8_t *room, const uint8_t *bytes, size_t length)
 {
     char name[4 * LONGEST_PATH];
     size_t used = 0;
@@ -63,8 +63,6 @@ static size_t ascii_names(uint8_t *room, const uint8_t *bytes, size_t length)
         const uint8_t *end = memchr(bytes + from, '\n', length - from);
         count = end ? (size_t)(end - bytes) + 1 - from : length - from;
         size_t put = put_name(name, sizeof name, bytes + from, count);
-        if (!is_ascii((const uint8_t *)name, put))
-            continue;
         memcpy(room + used, name, put);
         used += put;
     }
@@ -105,7 +103,7 @@ static void finish(Link *link, KzReply reply, const uint8_t *bytes, size_t lengt
         return;
     }
     if (link->code == FRAME_LIST && length <= sizeof names && !is_ascii(bytes, length)) {
-        length = reply.information = ascii_names(names, bytes, length);
+        length = reply.information = put_names(names, bytes, length);
         bytes = names;
     }
     if (link->code == FRAME_CREATE && reply.status == KZS_OK)
@@ -150,38 +148,34 @@ void answer_begin(Link *links, size_t count)
 
 /* A path of a frame, as the host has it. */
 typedef struct {
-    char text[5 * LONGEST_PATH + 1];
+    char text[5 * LONGEST_WIDE_PATH + 1];
 } Path;
 
-static void take_path(const Frame *frame, Path *path)
+static bool take_path(const Frame *frame, Path *path)
 {
-    char text[LONGEST_PATH + 1] = "";
+    char text[LONGEST_WIDE_PATH + 1] = "";
     memcpy(text, frame->text, frame->text_length);
-    kz_unspell_outside(path->text, sizeof path->text, text);
+    return kz_unspell_outside(path->text, sizeof path->text, text) && strlen(path->text) < KZ_PATH;
 }
 
-static void create(Link *link, const Frame *frame)
+static void create(Link *link, const Frame *frame, const Path *path)
 {
-    Path path;
-    take_path(frame, &path);
     KzCreate asked = kz_usual_create(kz_disposition_of(frame->mode), false);
     if (frame->mode == CREATE_NEW)
         asked.options &= ~FILE_NON_DIRECTORY_FILE; /* a folder of that name is in the way as a file is */
     asking = link;
-    kz_perform_create(frame->volume, path.text, &asked);
+    kz_perform_create(frame->volume, path->text, &asked);
 }
 
 /* To the name from the volume's root, as MoveFileEx has it: what has that name goes, also while it is open. */
-static void rename_file(const Frame *frame)
+static void rename_file(const Frame *frame, const Path *path)
 {
     struct {
         FILE_RENAME_INFORMATION head;
-        WCHAR rest[2 * LONGEST_PATH];
+        WCHAR rest[2 * LONGEST_WIDE_PATH];
     } said = {.head.Flags = FILE_RENAME_POSIX_SEMANTICS | (frame->mode ? FILE_RENAME_REPLACE_IF_EXISTS : 0)};
-    Path path;
-    char whole[sizeof path + 60];
-    take_path(frame, &path);
-    snprintf(whole, sizeof whole, "/Device/%s/%s", kz_file_of(frame->handle)->volume->name, path.text);
+    char whole[sizeof *path + 60];
+    snprintf(whole, sizeof whole, "/Device/%s/%s", kz_file_of(frame->handle)->volume->name, path->text);
     said.head.FileNameLength = kz_widen(said.head.FileName, whole);
     kz_ask_file(frame->handle, &(KzAsked){.major = IRP_MJ_SET_INFORMATION,
                                           .code = FileRenameInformationEx,
@@ -197,12 +191,10 @@ static void close_handle(Link *link)
 }
 
 /* A folder is told without being opened: filters see paths, and none of these. */
-static void look(Link *link, const Frame *frame)
+static void look(Link *link, const Frame *frame, const Path *path)
 {
-    Path path;
     KzFound found = {0};
-    take_path(frame, &path);
-    kz_look_in_folder(frame->volume, path.text, &found);
+    kz_look_in_folder(frame->volume, path->text, &found);
     link->looked = (Looked){found.is_directory ? LOOKED_AT_FOLDER : LOOKED_AT_FILE, found.mode, found.read_at, found.written_at};
     link->step = LOOK_OPENS;
     link->status = KZS_OK;
@@ -211,7 +203,7 @@ static void look(Link *link, const Frame *frame)
     if (found.is_directory)
         link_reply(link, KZS_OK, 0, bytes, looked_put(bytes, &link->looked));
     else
-        create(link, frame); /* its mode is that of what exists */
+        create(link, frame, path); /* its mode is that of what exists */
 }
 
 /* The operation that a frame asks for, as an event. */
@@ -240,28 +232,47 @@ static uint8_t refusal(const Link *link, const Frame *frame)
     return is_closed[frame->volume] ? KZS_DISMOUNTING : KZS_OK;
 }
 
-static void operate(Link *link, const Frame *frame)
+static bool has_path(uint8_t code)
 {
-    uint8_t status = refusal(link, frame);
-    link->handle = frame->handle;
-    if (status != KZS_OK) {
-        link_reply(link, status, 0, NULL, 0);
-    } else if (frame->code == FRAME_CREATE) {
-        create(link, frame);
-    } else if (frame->code == FRAME_LOOK) {
-        look(link, frame);
-    } else if (frame->code == FRAME_CLOSE) {
-        close_handle(link);
-    } else if (frame->code == FRAME_RENAME) {
+    return code == FRAME_CREATE || code == FRAME_LOOK || code == FRAME_RENAME;
+}
+
+static void perform(Link *link, const Frame *frame, const Path *path)
+{
+    switch (frame->code) {
+    case FRAME_CREATE:
+        create(link, frame, path);
+        break;
+    case FRAME_LOOK:
+        look(link, frame, path);
+        break;
+    case FRAME_RENAME:
         asking = link;
-        rename_file(frame);
-    } else if (frame->code == FRAME_SET_DELETE || frame->code == FRAME_RESTORE) {
+        rename_file(frame, path);
+        break;
+    case FRAME_CLOSE:
+        close_handle(link);
+        break;
+    case FRAME_SET_DELETE:
+    case FRAME_RESTORE:
         asking = link;
         kz_dispose_file(frame->handle, frame->code == FRAME_SET_DELETE);
-    } else {
+        break;
+    default:
         asking = link;
         kz_perform(event_of(frame), frame->code == FRAME_WRITE ? frame->text : (const uint8_t *)"", frame->text_length, NULL);
     }
+}
+
+static void operate(Link *link, const Frame *frame)
+{
+    Path path;
+    uint8_t status = has_path(frame->code) && !take_path(frame, &path) ? KZS_BAD_PATH : refusal(link, frame);
+    link->handle = frame->handle;
+    if (status != KZS_OK)
+        link_reply(link, status, 0, NULL, 0);
+    else
+        perform(link, frame, &path);
 }
 
 static void copy_text(char *room, const uint8_t *text, size_t length)

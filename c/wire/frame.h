@@ -41,6 +41,8 @@ enum { CREATE_EXISTING, CREATE_NEW, CREATE_ALWAYS };
 #define REPLY_HEAD 14
 #define LONGEST_TRANSFER 32768
 #define LONGEST_PATH 255
+/* And of a server of drivers, in bytes. */
+#define LONGEST_WIDE_PATH 1024
 #define LARGEST_FILE ((uint64_t)1 << 40)
 
 /* A request. Its texts and bytes lie in the frame, or are the caller's. */
@@ -75,5 +77,8 @@ uint64_t number_at(const uint8_t *room, unsigned bytes);
 bool is_body_length(uint64_t length);
 /* Whether it is a path as the manager has them: at most 255 characters of ASCII, parts between slashes, of which none is empty, . or .. */
 bool is_path(const uint8_t *text, size_t length);
+/* The same as a server of drivers has them: of UTF-8, at most LONGEST_WIDE_PATH bytes. */
+bool is_wide_path(const uint8_t *text, size_t length);
+bool is_utf8(const uint8_t *text, size_t length);
 
 #endif

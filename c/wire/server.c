@@ -99,9 +99,9 @@ static uint8_t refusal(const Frame *frame)
     case FRAME_RENAME:
         if (frame->mode > (frame->code == FRAME_CREATE ? CREATE_ALWAYS : 1))
             return KZS_BAD_REQUEST;
-        return is_path(frame->text, frame->text_length) ? KZS_OK : KZS_BAD_PATH;
+        return is_wide_path(frame->text, frame->text_length) ? KZS_OK : KZS_BAD_PATH;
     case FRAME_LOOK:
-        return is_path(frame->text, frame->text_length) ? KZS_OK : KZS_BAD_PATH;
+        return is_wide_path(frame->text, frame->text_length) ? KZS_OK : KZS_BAD_PATH;
     case FRAME_READ:
         return frame->length > LONGEST_TRANSFER ? KZS_BAD_REQUEST : KZS_OK;
     case FRAME_WRITE:

@@ -46,7 +46,7 @@ static KzFolderAnswer refused(int error)
 
 static int open_below(const KzFolder *folder, const char *path, int flags)
 {
-    char spelt[1024];
+    char spelt[KZ_PATH];
     kz_spell_outside(spelt, sizeof spelt, path);
     struct open_how how = {.flags = (uint64_t)(flags | O_CLOEXEC), .mode = flags & O_CREAT ? 0666 : 0, .resolve = RESOLVE_BENEATH | RESOLVE_NO_MAGICLINKS};
     return (int)syscall(SYS_openat2, folder->descriptor, spelt, &how, sizeof how);
@@ -89,12 +89,9 @@ static KzFolderAnswer done(int file, bool is_right)
 /* The folder in which a file lies. */
 static int open_above(const KzFolder *folder, const char *path)
 {
-    char above[LONGEST_PATH + 1] = ".";
+    char above[KZ_PATH];
     const char *slash = strrchr(path, '/');
-    if (slash) {
-        memcpy(above, path, (size_t)(slash - path));
-        above[slash - path] = '\0';
-    }
+    snprintf(above, sizeof above, "%.*s", slash ? (int)(slash - path) : 1, slash ? path : ".");
     return open_below(folder, above, O_RDONLY | O_DIRECTORY);
 }
 
@@ -253,7 +250,7 @@ void kz_folder_entries(const KzFolder *folder, const char *path, void (*say)(voi
     DIR *place = file == -1 ? NULL : fdopendir(file);
     char name[1300];
     for (const struct dirent *entry = place ? readdir(place) : NULL; entry; entry = readdir(place))
-        if (kz_unspell_outside(name, sizeof name, entry->d_name) && is_path((const uint8_t *)name, strlen(name)))
+        if (kz_unspell_outside(name, sizeof name, entry->d_name) && is_wide_path((const uint8_t *)name, strlen(name)))
             say(given, name);
     if (place)
         closedir(place);

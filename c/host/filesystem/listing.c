@@ -51,7 +51,7 @@ static int keep_all(DIR *place, Names *names, size_t size)
     char name[1300];
     errno = 0;
     for (const struct dirent *entry = readdir(place); entry && error == 0; entry = error == 0 ? readdir(place) : NULL) {
-        if (kz_unspell_outside(name, sizeof name, entry->d_name) && is_path((const uint8_t *)name, strlen(name)) && may_be_file(dirfd(place), entry))
+        if (kz_unspell_outside(name, sizeof name, entry->d_name) && is_wide_path((const uint8_t *)name, strlen(name)) && may_be_file(dirfd(place), entry))
             error = keep(names, name);
         if (names->bytes > size)
             error = EOVERFLOW;

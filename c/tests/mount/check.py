@@ -37,6 +37,7 @@ def main():
     parser.add_argument("--count", type=int, default=900, help="random operations")
     parser.add_argument("--seed", type=int)
     parser.add_argument("--renames", choices=("copied", "closed", "all"), default="copied", help="what the server's frame renames: nothing, all but onto what is open, all")
+    parser.add_argument("--wide", action="store_true", help="its paths have letters beyond ASCII, and up to 1,024 bytes")
     parser.add_argument("--kills", type=int, default=8, help="how often the mount and the server are killed in a safe write")
     parser.add_argument("parts", nargs="*")
     tools = parser.parse_args()

@@ -244,8 +244,32 @@ def owned(tally, tools):
         call("until it is written", True, lambda: os.stat(at("g")).st_mtime > 6)
 
 
+def spelled(tally, tools):
+    """Letters beyond ASCII and long paths, as far as the server has them."""
+    with Ground(tally, tools, "below={host}") as ground:
+        at, call = ground.at, tally.call
+        call("a letter beyond ASCII", 5 if tools.wide else "EINVAL", put, at("gr\u00f6\u00dfe"), b"bytes")
+        call("one below", 1, put, ground.below("\u65e5\u672c"), b"x")
+        call("is read", b"x" if tools.wide else "ENOENT", whole, at("\u65e5\u672c"))
+        call("what is listed", ["gr\u00f6\u00dfe", "\u65e5\u672c"] if tools.wide else [], lambda: sorted(os.listdir(ground.mount)))
+        call("what isn't UTF-8", "EINVAL", put, os.fsencode(ground.mount) + b"/\xff", b"")
+        call("a name that is too long", "ENAMETOOLONG", put, at("n" * 256), b"")
+        path, made = ground.mount, 0
+        while len(path) - len(ground.mount) < 900 and outcome(os.mkdir, path + "/folder_01") is None:
+            path, made = path + "/folder_01", made + 1
+        call("folders in folders", 90 if tools.wide else 25, lambda: made)
+        call("a file in them", 5, put, path + "/f", b"bytes")
+        call("is read", b"bytes", whole, path + "/f")
+        if tools.wide:
+            call("another name", None, os.rename, at("gr\u00f6\u00dfe"), path + "/\u00e9")
+            call("its bytes", b"bytes", whole, path + "/\u00e9")
+            call("a link's", None, os.symlink, "\u65e5\u672c", at("\u00fc"))
+            call("leads there", b"x", whole, at("\u00fc"))
+
+
 def run(tally, tools):
     """All of it."""
+    spelled(tally, tools)
     made(tally, tools)
     outside(tally, tools)
     linked(tally, tools)

@@ -33,7 +33,7 @@ $tests/serve/limits.py --only abandoned "$fltd" || status=1
 if why=$(may_mount); then
     make -s -C c fltmount PROGRAM="$room/fltmount" CFLAGS="-O1 ${words:+-fsanitize=address,undefined -fno-sanitize-recover=undefined}" || exit 2
     [ $# -gt 0 ] || set -- calls cases folders model deletions held ends late layered safe
-    $tests/mount/check.py --server "$room/server" --mount "$room/fltmount" --count 600 --renames all "$@" || status=1
+    $tests/mount/check.py --server "$room/server" --mount "$room/fltmount" --count 600 --renames all --wide "$@" || status=1
 else
     untried "$why, for the mount above it" || status=1
 fi

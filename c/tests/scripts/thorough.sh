@@ -128,7 +128,7 @@ mount() {
     tell $? mount
     may_mount > /dev/null && make -s -C c fltmount PROGRAM="$room/fltmount" || return
     c/build.sh --serve "$room/served" $tests/serve/drivers/shift.c
-    $tests/mount/check.py --server "$room/served" --mount "$room/fltmount" --renames all --kills 100 safe
+    $tests/mount/check.py --server "$room/served" --mount "$room/fltmount" --renames all --wide --kills 100 safe
     tell $? "a hundred kills each in safe writes"
     if make -s -C c fltmount PROGRAM="$program" CFLAGS="-O1 -fsanitize=thread" 2> /dev/null; then
         $tests/mount/check.py --server "$FLTD" --mount "$program" --count 6000 calls model deletions held ends

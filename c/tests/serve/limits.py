@@ -305,7 +305,7 @@ def foreign_names(command):
         for name in (b"a", b"\xff\xfe", "\u00e9".encode(), b"z"):
             open(os.path.join(os.fsencode(server.folder), name), "wb").close()
         reply = client.list(0)
-        expect("list", (reply.status, sorted(reply.data.split(b"\n"))), (OK, [b"", b"a", b"z"]))
+        expect("list", (reply.status, sorted(reply.data.split(b"\n"))), (OK, [b"", b"a", b"z", "\u00e9".encode()]))
 
 
 def abandoned(command):

@@ -18,6 +18,8 @@ import kazdrin  # noqa: E402
 
 OK, NO_HANDLE, BAD_PATH, DENIED, FAULT, NOT_FOUND, EXISTS, END, BAD_REQUEST, GOING = 0, 14, 15, 17, 18, 19, 20, 31, 32, 33
 PATIENCE = 20
+# Folders in folders.
+DEEP = "/".join(["d" * 200] * 4 + ["d" * 100])
 FILES = {"f": b"from", "t": b"to there", "d/in": b"in"}
 
 
@@ -57,6 +59,13 @@ ROWS = {
                opened("h"), ("a", "write", ("h", 9, b"!"), (OK, 1)), looked("f"), ("a", "look", ("f",), (OK, 10)), ("a", "set_delete", ("h",), (OK,)), ("b", "look", ("f",), (16, 0)), ("a", "restore", ("h",), (OK,)), ("b", "look", ("f",), (OK, 10))],
     "a look leaves no handle": [("a", "look", ("f",), (OK, 4))] * 4200 + [opened("h"), bytes_of("h", b"from"), ("a", "rename", ("h", "x"), (OK,))],
     "filters hear of a look": attached("guard") + [("a", "look", ("deny/x",), (DENIED, 0)), ("a", "look", ("d/in",), (OK, 2))],
+    "names beyond ASCII": [("a", "create", (b"gr\xc3\xb6\xc3\x9fe.txt", 1), (OK, "$h")), ("a", "write", ("h", 0, b"x"), (OK, 1)), ("a", "rename", ("h", "d/\u65e5\u672c"), (OK,)), looked("d/\u65e5\u672c"),
+                           ("a", "rename", ("h", "\U0001f600"), (OK,)), looked("\U0001f600"), ("a", "list", (), lambda reply: sorted(reply.data.split(b"\n")) == [b"", b"f", b"out", b"t", b"\xf0\x9f\x98\x80"]),
+                           below(f=b"from", t=b"to there", d__in=b"in", **{"\U0001f600": b"x"}), ("a", "create", (b"\xff",), (BAD_PATH,)), ("a", "create", (b"\xc0\xaf",), (BAD_PATH,)), ("a", "create", (b"\xed\xa0\x80",), (BAD_PATH,)),
+                           ("a", "create", (b"\xc3",), (BAD_PATH,)), ("a", "create", (b"\xe2\x82/x",), (BAD_PATH,)), ("a", "rename", ("h", b"\xff"), (BAD_PATH,))],
+    "long paths": [("a", "create", (DEEP + "/" + "x" * (1023 - len(DEEP)), 1), (OK, "$h")), ("a", "write", ("h", 0, b"x"), (OK, 1)), looked(DEEP + "/" + "x" * (1023 - len(DEEP))), ("a", "create", (DEEP + "/" + "x" * (1024 - len(DEEP)), 1), (BAD_PATH,)),
+                   ("a", "rename", ("h", "near"), (OK,)), ("a", "rename", ("h", DEEP + "/near"), (OK,)), looked(DEEP + "/near"), ("a", "create", ("x" * 255, 1), (OK, "$n")), ("a", "rename", ("n", "x" * 256), lambda reply: reply.status in (BAD_PATH, FAULT)),
+                   ("a", "set_delete", ("h",), (OK,)), ("a", "close", ("h",), (OK,)), ("a", "look", (DEEP + "/near",), (NOT_FOUND,))],
     "a look is held": [opened("h"), ("a", "rename", ("h", "late"), (OK,))] + attached("late") + [("b", "send", (kazdrin.LOOK, b"\0late"), None), ("a", "list", (), (OK,)), ("a", "flush", ("h",), (OK,)),
                        ("a", "list", (), (OK,)), ("a", "flush", ("h",), (OK,)), ("b", "take", (), (OK, 4)), ("b", "list", (), (OK,))],
     "who waits for a look goes": [opened("h"), ("a", "rename", ("h", "late"), (OK,))] + attached("late") + [("b", "send", (kazdrin.LOOK, b"\0late"), None), ("a", "list", (), (OK,)), ("b", "hang_up", (), None), ("a", "list", (), (OK,)),
@@ -99,6 +108,7 @@ class Server:
         self.folder, path = os.path.join(self.place, "files"), os.path.join(self.place, "s")
         os.makedirs(os.path.join(self.folder, "d"))
         os.mkdir(os.path.join(self.folder, "deny"))
+        os.makedirs(os.path.join(self.folder, DEEP))
         os.mkfifo(os.path.join(self.folder, "pipe"))
         os.symlink("/etc/passwd", os.path.join(self.folder, "out"))
         for name, data in FILES.items():

@@ -424,6 +424,20 @@ c/install.sh "$room/an installed tree" > "$room/install.log" 2>&1 || { cat "$roo
 tell $? "install"
 ./flt new driver "$room/a-driver" > /dev/null && c/build.sh "$room/a-driver/run" "$room/a-driver/a-driver.c" && "$room/a-driver/run" --quiet "$room/a-driver/requests.txt"
 tell $? "a new driver"
+# The tasks of its editor, as that runs them, and what a report's line is to it.
+python3 - "$room/a-driver" << 'END'
+import json, re, subprocess, sys
+folder = sys.argv[1]
+read = lambda name: json.load(open(f"{folder}/.vscode/{name}", encoding="utf-8"))  # noqa: E731
+tasks, start = {task["label"]: task for task in read("tasks.json")["tasks"]}, read("launch.json")["configurations"][0]
+for name in (start["preLaunchTask"], "requests"):
+    subprocess.run(tasks[name]["command"].replace("${workspaceFolder}", folder), shell=True, check=True, stdout=subprocess.DEVNULL)
+pattern = tasks["requests"]["problemMatcher"]["pattern"]
+found = re.match(pattern["regexp"], "TOLD KZ0101 FltReleaseContext: never called: filter leaks, instance 0, postoperation, IRP_MJ_CREATE, at leaks.c:34 by FltReferenceContext, \\many, line 15: create 0 new many")
+assert [found[pattern[it]] for it in ("code", "file", "line")] == ["KZ0101", "leaks.c", "34"], found
+assert open(start["setupCommands"][0]["text"].split(" ", 1)[1], encoding="utf-8").read(), start
+END
+tell $? "the tasks of a new driver"
 if command -v cmake > /dev/null; then
     (
         unset KAZDRIN_LIB

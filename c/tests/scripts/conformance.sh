@@ -31,8 +31,33 @@ wine_suite() {
     tell $? "$name"
 }
 
-[ $# -gt 0 ] || set -- rtlbitmap rtlstr rtl string large_int error time directory file
+# samba_suite NAME: one of smb2's, as a program above the requests. The exceptions say which of its functions are left out, and which are its tests.
+samba_suite() {
+    local name=$1 folder=$room/$1 cut
+    mkdir -p "$folder"
+    cut=" $(sed -n "s/^cut $name \([^ ]*\).*/\1/p" "$own/exceptions.txt" | tr '\n' ' ') "
+    {
+        printf '#define SUITE "%s"\n#include "%s/samba/suite.h"\n#line 1\n' "$name.c" "$own"
+        awk -v cut="$cut" -f "$own/samba/keep.awk" "$samba/source4/torture/smb2/$name.c"
+        printf '#define SUITE_TESTS %s\n' "$(sed -n "s/^test $name \([^ ]*\) \([^|]*\) |.*/SUITE_TEST(\1, \2)/p" "$own/exceptions.txt" | tr '\n' ' ')"
+        printf '#include "%s/samba/run.h"\n' "$own"
+    } > "$folder/main.c"
+    c/build.sh --main "$folder/main.c" "$folder/run" c/samples/nullfilter.c > "$folder/built" 2>&1 || {
+        grep -E 'error|undefined' "$folder/built" | head -n 20
+        tell 1 "$name, as it was built,"
+        return
+    }
+    timeout 300 "$folder/run" > "$folder/out" 2> /dev/null
+    awk -v suite="$name" -f "$own/compare.awk" "$own/exceptions.txt" "$folder/out"
+    tell $? "$name"
+}
+
+[ $# -gt 0 ] || set -- rtlbitmap rtlstr rtl string large_int error time directory file sharemode rename delete-on-close mkdir
+samba=$("$own/fetch.sh" samba source4/torture/smb2 2> /dev/null) || echo "conformance: without Samba's, since its source package can't be had"
 for suite in "$@"; do
-    wine_suite "$suite"
+    case $suite in
+    sharemode | rename | delete-on-close | mkdir) [ -z "$samba" ] || samba_suite "$suite" ;;
+    *) wine_suite "$suite" ;;
+    esac
 done
 finish

@@ -21,10 +21,15 @@ struct KzRangeState {
     Wanted *wanted;
 };
 
-/* ---- Of anything. */
+/* ---- Of anything. Of two that have no bytes none lies in the other; one that has none lies in another where bytes of that stand before and after it. */
+static bool ends_before(uint64_t from, uint64_t length, uint64_t other)
+{
+    return length ? from + (length - 1) < other : from <= other;
+}
+
 static bool is_apart(const KzRange *held, uint64_t from, uint64_t length)
 {
-    return !length || !held->length || from >= held->from + held->length || held->from >= from + length;
+    return ends_before(held->from, held->length, from) || ends_before(from, length, held->from);
 }
 
 /* Of the same bytes its owner may have a shared lock beside the exclusive one. */
@@ -36,7 +41,7 @@ static bool is_in_the_way(const KzHeldRange *one, const void *owner, const KzRan
 
 NTSTATUS kz_hold_range(KzHeldRange **list, const void *owner, const KzRange *range)
 {
-    if (range->length && range->from > UINT64_MAX - range->length)
+    if (range->length && range->from > UINT64_MAX - (range->length - 1))
         return STATUS_INVALID_LOCK_RANGE;
     for (const KzHeldRange *one = *list; one; one = one->next)
         if (is_in_the_way(one, owner, range))
@@ -84,7 +89,7 @@ bool kz_is_held_against(const KzHeldRange *list, const void *owner, const ULONG 
 {
     for (const KzHeldRange *one = list; one; one = one->next) {
         bool is_own = one->owner == owner && (!key || one->range.key == *key), is_against = one->range.is_exclusive ? !is_own : is_write;
-        if (is_against && !is_apart(&one->range, from, length))
+        if (is_against && length && one->range.length && !is_apart(&one->range, from, length))
             return true;
     }
     return false;

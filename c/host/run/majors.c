@@ -330,7 +330,7 @@ static KzReply ask_set_quota(char **words)
 static KzReply on_range(char **words, UCHAR minor, UCHAR flags)
 {
     KzAsked asked = {.major = IRP_MJ_LOCK_CONTROL, .minor = minor, .flags = flags, .waits = minor == IRP_MN_LOCK && !(flags & SL_FAIL_IMMEDIATELY)};
-    if (!kz_read_number(words[2], INT64_MAX, &asked.from) || !kz_read_number(words[3], INT64_MAX, &asked.length))
+    if (!kz_read_number(words[2], UINT64_MAX, &asked.from) || !kz_read_number(words[3], UINT64_MAX, &asked.length))
         return kz_wrong();
     return on_handle(words[1], &asked);
 }

@@ -52,11 +52,11 @@ samba_suite() {
     tell $? "$name"
 }
 
-[ $# -gt 0 ] || set -- rtlbitmap rtlstr rtl string large_int error time directory file sharemode rename delete-on-close mkdir
+[ $# -gt 0 ] || set -- rtlbitmap rtlstr rtl string large_int error time directory file sharemode rename delete-on-close mkdir lock
 samba=$("$own/fetch.sh" samba source4/torture/smb2 2> /dev/null) || echo "conformance: without Samba's, since its source package can't be had"
 for suite in "$@"; do
     case $suite in
-    sharemode | rename | delete-on-close | mkdir) [ -z "$samba" ] || samba_suite "$suite" ;;
+    sharemode | rename | delete-on-close | mkdir | lock) [ -z "$samba" ] || samba_suite "$suite" ;;
     *) wine_suite "$suite" ;;
     esac
 done

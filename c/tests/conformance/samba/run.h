@@ -103,6 +103,64 @@ NTSTATUS smb2_find_level(struct smb2_tree *tree, TALLOC_CTX *memory, struct smb2
     return ask(line, NULL);
 }
 
+DATA_BLOB data_blob_const(const void *bytes, size_t length)
+{
+    return (DATA_BLOB){bytes, length};
+}
+
+NTSTATUS smb2_util_write(struct smb2_tree *tree, struct smb2_handle handle, const void *bytes, uint64_t offset, size_t length)
+{
+    char line[1000];
+    (void)tree;
+    int used = snprintf(line, sizeof line, "write %llu %llu ", (unsigned long long)handle.data[0], (unsigned long long)offset);
+    for (size_t at = 0; at < length && at < 400; at++)
+        used += snprintf(line + used, sizeof line - (size_t)used, "%02x", ((const uint8_t *)bytes)[at]);
+    return ask(line, NULL);
+}
+
+NTSTATUS smb2_write(struct smb2_tree *tree, struct smb2_write *io)
+{
+    return smb2_util_write(tree, io->in.file.handle, io->in.data.data, io->in.offset, io->in.data.length);
+}
+
+NTSTATUS smb2_read(struct smb2_tree *tree, TALLOC_CTX *memory, struct smb2_read *io)
+{
+    char line[80];
+    (void)tree, (void)memory;
+    snprintf(line, sizeof line, "read %llu %llu %u", (unsigned long long)io->in.file.handle.data[0], (unsigned long long)io->in.offset, io->in.length);
+    NTSTATUS status = ask(line, NULL);
+    io->out.data.data = kz_reply_bytes(&io->out.data.length);
+    return status;
+}
+
+static NTSTATUS unlock(struct smb2_handle handle, const struct smb2_lock_element *one)
+{
+    char line[80];
+    snprintf(line, sizeof line, "unlock %llu %llu %llu", (unsigned long long)handle.data[0], (unsigned long long)one->offset, (unsigned long long)one->length);
+    return ask(line, NULL);
+}
+
+/* All of a request's locks are had, or none; a request that unlocks does that alone. */
+NTSTATUS smb2_lock(struct smb2_tree *tree, struct smb2_lock *io)
+{
+    char line[80];
+    (void)tree;
+    io->out.reserved = 0;
+    for (unsigned at = 0; at < io->in.lock_count; at++) {
+        const struct smb2_lock_element *one = &io->in.locks[at];
+        bool unlocks = io->in.locks[0].flags & SMB2_LOCK_FLAG_UNLOCK, is_wrong = unlocks ? one->flags != SMB2_LOCK_FLAG_UNLOCK : one->flags & SMB2_LOCK_FLAG_UNLOCK;
+        snprintf(line, sizeof line, "lock %llu %llu %llu%s", (unsigned long long)io->in.file.handle.data[0], (unsigned long long)one->offset, (unsigned long long)one->length,
+                 one->flags & SMB2_LOCK_FLAG_SHARED ? " shared" : "");
+        NTSTATUS status = is_wrong ? STATUS_INVALID_PARAMETER : unlocks ? unlock(io->in.file.handle, one) : ask(line, NULL);
+        if (NT_SUCCESS(status))
+            continue;
+        for (unsigned had = 0; had < at && !unlocks; had++)
+            unlock(io->in.file.handle, &io->in.locks[had]);
+        return status;
+    }
+    return STATUS_SUCCESS;
+}
+
 /* ---- What the client's library makes of them. */
 static NTSTATUS open_and_close(const char *name, uint32_t access, uint32_t disposition, uint32_t options, uint32_t attributes)
 {
@@ -171,6 +229,14 @@ NTSTATUS torture_smb2_testdir(struct smb2_tree *tree, const char *name, struct s
     (void)tree;
     note(name);
     const struct smb2_create io = {.in = {.desired_access = FILE_ALL_ACCESS, .share_access = FILE_SHARE_VALID_FLAGS, .create_disposition = NTCREATEX_DISP_OPEN_IF, .create_options = FILE_DIRECTORY_FILE}};
+    return open_name(name, &io, handle);
+}
+
+NTSTATUS torture_smb2_testfile(struct smb2_tree *tree, const char *name, struct smb2_handle *handle)
+{
+    (void)tree;
+    note(name);
+    const struct smb2_create io = {.in = {.desired_access = FILE_ALL_ACCESS, .share_access = FILE_SHARE_VALID_FLAGS, .create_disposition = NTCREATEX_DISP_OPEN_IF, .file_attributes = FILE_ATTRIBUTE_NORMAL}};
     return open_name(name, &io, handle);
 }
 

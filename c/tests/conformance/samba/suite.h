@@ -52,6 +52,8 @@ enum { NTCREATEX_DISP_SUPERSEDE, NTCREATEX_DISP_OPEN, NTCREATEX_DISP_CREATE, NTC
 enum { SMB2_IMPERSONATION_ANONYMOUS, SMB2_OPLOCK_LEVEL_NONE, SMB2_CONTINUE_FLAG_SINGLE, SMB2_FIND_BOTH_DIRECTORY_INFO };
 enum { RAW_OPEN_SMB2, RAW_CLOSE_SMB2, RAW_FILEINFO_SMB2_ALL_INFORMATION, RAW_SFILEINFO_RENAME_INFORMATION, RAW_SFILEINFO_DISPOSITION_INFORMATION };
 
+enum { SMB2_LOCK_FLAG_NONE = 0, SMB2_LOCK_FLAG_SHARED = 1, SMB2_LOCK_FLAG_EXCLUSIVE = 2, SMB2_LOCK_FLAG_UNLOCK = 4, SMB2_LOCK_FLAG_FAIL_IMMEDIATELY = 16 };
+
 /* ---- Structures, as far as the tests fill them in or read them. */
 typedef void TALLOC_CTX;
 struct torture_context;
@@ -91,6 +93,42 @@ struct smb2_find {
         const char *pattern;
         int continue_flags, max_response_size, level;
     } in;
+};
+struct smb2_lock_element {
+    uint64_t offset, length;
+    uint32_t flags, reserved;
+};
+struct smb2_lock {
+    struct {
+        struct suite_file file;
+        uint16_t lock_count;
+        uint32_t lock_sequence;
+        struct smb2_lock_element *locks;
+    } in;
+    struct {
+        uint16_t reserved;
+    } out;
+};
+typedef struct {
+    const uint8_t *data;
+    size_t length;
+} DATA_BLOB;
+struct smb2_write {
+    struct {
+        struct suite_file file;
+        uint64_t offset;
+        DATA_BLOB data;
+    } in;
+};
+struct smb2_read {
+    struct {
+        struct suite_file file;
+        uint64_t offset;
+        uint32_t length;
+    } in;
+    struct {
+        DATA_BLOB data;
+    } out;
 };
 union smb_open {
     struct {
@@ -163,6 +201,9 @@ union smb_fileinfo {
             goto label;                                                                \
         }                                                                              \
     } while (0)
+#define torture_assert_int_equal_goto(context, got, expected, result, label, ...) torture_assert_ntstatus_equal_goto(context, got, expected, result, label, "")
+#define torture_warning(...) ((void)0)
+#define torture_skip(...) return true
 #define torture_assert_ntstatus_ok_goto(context, got, result, label, ...) torture_assert_ntstatus_equal_goto(context, got, STATUS_SUCCESS, result, label, "")
 
 void suite_checked(void);
@@ -179,6 +220,12 @@ NTSTATUS smb2_setinfo_file(struct smb2_tree *tree, union smb_setfileinfo *io);
 NTSTATUS smb2_getinfo_file(struct smb2_tree *tree, TALLOC_CTX *memory, union smb_fileinfo *io);
 NTSTATUS smb2_find_level(struct smb2_tree *tree, TALLOC_CTX *memory, struct smb2_find *io, unsigned *count, union smb_search_data **data);
 NTSTATUS smb2_util_close(struct smb2_tree *tree, struct smb2_handle handle);
+NTSTATUS smb2_lock(struct smb2_tree *tree, struct smb2_lock *io);
+NTSTATUS smb2_write(struct smb2_tree *tree, struct smb2_write *io);
+NTSTATUS smb2_read(struct smb2_tree *tree, TALLOC_CTX *memory, struct smb2_read *io);
+NTSTATUS smb2_util_write(struct smb2_tree *tree, struct smb2_handle handle, const void *bytes, uint64_t offset, size_t length);
+NTSTATUS torture_smb2_testfile(struct smb2_tree *tree, const char *name, struct smb2_handle *handle);
+DATA_BLOB data_blob_const(const void *bytes, size_t length);
 NTSTATUS smb2_util_mkdir(struct smb2_tree *tree, const char *name);
 NTSTATUS smb2_util_rmdir(struct smb2_tree *tree, const char *name);
 NTSTATUS smb2_util_unlink(struct smb2_tree *tree, const char *name);

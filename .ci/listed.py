@@ -10,7 +10,7 @@ TOP = pathlib.Path(__file__).resolve().parent.parent
 # What reads each file.
 ALWAYS = "merges rules links shell listed pages"
 DRIVERS = "host legal misuse explore sound spread threads names order programs image picture"
-HOST = f"{DRIVERS} layers script cache headers conformance paging serve"
+HOST = f"{DRIVERS} coverage layers script cache headers conformance paging serve"
 KIT = "host cache image objects stored trial"
 CRATES = "demanded promises format proofs archive"
 # Ten places, and the parts that read each beside those.

@@ -7,6 +7,7 @@
 #   --serve             a server of the drivers, behind the frames of docs/FRAMES.md
 #   --image             a program that loads binaries of drivers too, those of its words that end with .sys; then no DRIVER has to be named (docs/BINARY.md)
 #   --sanitize=WORDS    under these sanitizers of the compiler; `thread` watches the drivers alone
+#   --coverage          a program that counts which lines of its drivers run, in PROGRAM.info, as lcov has it: each line has code of its own then
 #   --main FILE         a main program of your own, above c/include/kzflt.h
 #   --fuzz, --libfuzzer a program of random requests, as c/fuzz.sh makes it
 #   -IFOLDER, -DNAME    a folder of headers, and a macro, of the drivers and the programs
@@ -34,6 +35,7 @@ kind=""
 sanitizers=""
 main=""
 image=""
+coverage=""
 depfile=""
 flags=""
 own=()
@@ -41,6 +43,7 @@ while [ $# -gt 0 ]; do
     case "$1" in
     --explore | --serve | --fuzz | --libfuzzer) kind=${1#--} ;;
     --image) image=image ;;
+    --coverage) coverage=yes ;;
     --sanitize=?*) sanitizers=${1#--sanitize=} ;;
     --main)
         [ $# -gt 1 ] || usage
@@ -221,6 +224,8 @@ calls_of "${CXX:-c++}"
 calls_cxx=("${calls[@]}")
 calls_of "$cc"
 
+# A line of optimized code may have none of its own.
+[ -z "$coverage" ] || driver+=(-O0)
 # Bit fields lie as Microsoft's compiler has them, where the machine's compiler can do so.
 if echo 'int a;' | $cc -mms-bitfields -x c -c -o /dev/null - 2> /dev/null; then
     driver+=(-mms-bitfields)
@@ -285,6 +290,7 @@ compile() {
     tracing "$1" "$2"
     mkdir "$1.adapted"
     file=$("$host/adapt" "$1.adapted" "$2") || exit 1
+    words+=(-fdebug-prefix-map="$1.adapted=$(cd "$(dirname "$2")" && pwd)")
     case "$2" in
     *.cpp | *.cc | *.cxx)
         blocks_cxx "$2"
@@ -419,6 +425,7 @@ wait
     for ((at = 0; at < programs; at++)); do cat "$room/program_$at.row"; done
     echo "{0, 0, 0}};"
     echo "const unsigned long kz_programs_count = $programs;"
+    [ -z "$coverage" ] || echo "const int kz_counts_lines = 1;"
     # gdb loads its words for the kit's types by itself, from a folder that its user trusts.
     case "$here" in
     *[\"\\]*) ;;

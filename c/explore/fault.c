@@ -1,6 +1,7 @@
 /* Faults: the first write to a page of the image, a crash of the driver's, and code that never comes to a point. */
 #define _GNU_SOURCE
 #include "explore.h"
+#include "core/coverage.h"
 #include "core/crash.h"
 #include "core/frame.h"
 #include "core/place.h"
@@ -44,7 +45,7 @@ static void handle(int signal, siginfo_t *information, void *context)
 {
     const ucontext_t *machine = context;
     char what[40];
-    if (signal == SIGSEGV && ex_opens_page(information->si_addr))
+    if ((signal == SIGSEGV && ex_opens_page(information->si_addr)) || (signal == SIGTRAP && kz_pass_mark(context)))
         return;
     if (is_carried_on(signal, information, context))
         return;

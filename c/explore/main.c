@@ -1,5 +1,6 @@
 /* The explorer's program: it runs a scenario under every schedule with at most so many preemptions. */
 #include "explore.h"
+#include "core/coverage.h"
 #include "core/process.h"
 #include "core/said.h"
 #include "run/open.h"
@@ -485,6 +486,7 @@ static void make_threads(void)
 int main(int count, char **words)
 {
     Asked asked = {.jobs = 1};
+    kz_count_lines();
     ex_open_memory();
     ex = ex_map(sizeof *ex);
     ex->room.bytes = ex_map(ROOM);

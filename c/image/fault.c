@@ -6,6 +6,7 @@
 #include "image/machine.h"
 #include "image/point.h"
 #include "image/slot.h"
+#include "core/coverage.h"
 #include "core/told.h"
 #include "core/client.h"
 
@@ -310,7 +311,7 @@ static bool is_absent(Fault *fault, ucontext_t *there, uint64_t rip)
 
 static bool carry_out_in_place(int signal, void *information, void *context)
 {
-    if (signal == SIGTRAP && kz_end_touch(context))
+    if (signal == SIGTRAP && (kz_end_touch(context) || kz_pass_mark(context)))
         return true;
     Fault fault = fault_of(signal, information, context);
     uint64_t rip = place_of(context);

@@ -192,6 +192,7 @@ static bool make(KzImage *image, KzBytes file, KzRefusal *why)
     name_driver(image);
     kz_read_symbols(image);
     kz_rewrite_levels(image);
+    kz_mark_lines(image);
     return true;
 }
 

@@ -36,6 +36,8 @@ void kz_rewrite_levels(const KzImage *image);
 extern bool kz_watches_copies;
 /* point.c: each access of theirs to memory that others may reach is told from now on. */
 void kz_watch_binaries(KzTellAccess *to);
+/* mark.c: its lines are counted, if lines are. */
+void kz_mark_lines(const KzImage *image);
 /* symbols.c: its .pdb, if there is one. */
 void kz_read_symbols(KzImage *image);
 /* line.c: a path without its folders. */

@@ -2,6 +2,8 @@
  * has its main come behind this one. */
 #include "image/image.h"
 
+#include "core/coverage.h"
+
 #include <stdlib.h>
 #include <strings.h>
 
@@ -38,6 +40,7 @@ static void load(const char *path)
 int __wrap_main(int count, char **words)
 {
     int kept = 1;
+    kz_count_lines();
     for (; kz_drivers_count < kz_linked_drivers_count && kz_drivers_count < MOST; kz_drivers_count++)
         kz_drivers[kz_drivers_count] = kz_linked_drivers[kz_drivers_count];
     for (int at = 1; at < count; at++) {

@@ -5,6 +5,7 @@
 #include "image/absent.h"
 #include "image/calls.h"
 #include "image/slot.h"
+#include "core/coverage.h"
 #include "core/memory.h"
 
 #include <stdlib.h>
@@ -53,7 +54,7 @@ static KzPoint *add(void)
 static void put(const KzImage *image, const KzPlaced *placed, KzOperand operand, bool begins, bool ends)
 {
     uint8_t *at = image->bytes.start + placed->at, *slot = kz_open_slot(SLOT);
-    if (!slot || *at != image->pristine[placed->at]) /* something else stands there already */
+    if (!slot || (*at != image->pristine[placed->at] && !kz_mark_at((uintptr_t)at))) /* something else stands there already */
         return;
     kz_put_jump(kz_move(slot, image->pristine + placed->at, (uintptr_t)at, &placed->one), (uintptr_t)at + placed->one.length);
     *add() = (KzPoint){(uintptr_t)at, slot, placed->one, operand, begins, ends};
@@ -157,6 +158,7 @@ static void tell_operand(const KzPoint *point, uint64_t address, const KzContext
 void kz_pass_point(KzContext *context)
 {
     const KzPoint *point = point_at(context->rip - 1);
+    kz_hit_mark(point->at);
     uint64_t address = point->operand.how & KZ_STRING ? 0 : kz_operand_at(point, context);
     if (point->operand.how & KZ_STRING)
         tell_string(point, context);

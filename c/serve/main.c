@@ -3,6 +3,7 @@
 #define _GNU_SOURCE
 #include "answer.h"
 
+#include "core/coverage.h"
 #include "core/piece.h"
 #include "filesystem/journal.h"
 #include "kzflt.h"
@@ -295,6 +296,7 @@ int main(int count, char **words)
     words += read_words(words, &is_cached, &has_guards);
     if (!words[1] || !words[2] || words[3])
         return tell_usage(program, stderr);
+    kz_count_lines();
     for (size_t at = 0; at < LINKS; at++)
         links[at].socket = -1;
     int error = kz_use_folder(words[1]);

@@ -126,6 +126,18 @@ bool kz_ask_line(const char *reader, const char *program, uintptr_t address, cha
     return line[0];
 }
 
+bool kz_ask_path(const char *program, uintptr_t address, char *path, size_t size)
+{
+    char all[4096];
+    ask("addr2line", program, address, all, sizeof all);
+    all[strcspn(all, "\n")] = 0;
+    char *line = strrchr(all, ':');
+    if (!line || all[0] == '?')
+        return false;
+    *line = 0;
+    return (size_t)snprintf(path, size, "%s", all) < size;
+}
+
 static void find(uintptr_t address, Known *one)
 {
     char program[512], all[4096], *rest = all;

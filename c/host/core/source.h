@@ -12,6 +12,8 @@ bool kz_find_path(uintptr_t address, char *room, size_t size);
 bool kz_is_left_out(const char *path);
 /* The same by a program as addr2line is one, of a file that it reads. */
 bool kz_ask_line(const char *reader, const char *program, uintptr_t address, char *line, size_t size);
+/* The whole path of the file of which the code at that address of a program is, left out or not. */
+bool kz_ask_path(const char *program, uintptr_t address, char *path, size_t size);
 /* Behind a line, each with an address of which it is: the lines that its code was put into, and those that called it. They are said as `, from file.c:9`, two of them at most. */
 #define KZ_FROM "\x1c"
 size_t kz_read_callers(const char *text, char *room, size_t size);

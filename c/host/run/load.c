@@ -27,6 +27,8 @@ typedef struct {
     char name[48];
     const KzScript *script;
     uint64_t rounds, handle;
+    uint64_t was_in;   /* a callback of the request of that number, at the last look */
+    double had_taken; /* so much of a processor then */
     bool has_ended; /* under the host's mutex */
 } Thread;
 
@@ -176,19 +178,17 @@ static double taken_by(const Thread *one)
  * time is seen by that, with its line, however little of a processor it gets. */
 static void look_for_endless(unsigned count, double late)
 {
-    static uint64_t was_in[THREADS + 1];
-    static double had_taken[THREADS + 1];
     enum { LONG = 10, LONGEST = 200 };
     KZ_INSIDE();
     for (unsigned at = 1; at <= count; at++) {
         const KzClient *client = &load.threads[at].client;
         bool is_in = !load.threads[at].has_ended && client->place.callback != KZ_IN_NOTHING;
         if (late < 1) {
-            was_in[at] = is_in ? client->place.number : 0;
-            had_taken[at] = is_in ? taken_by(&load.threads[at]) : 0;
-        } else if (!is_in || was_in[at] != client->place.number)
-            was_in[at] = 0;
-        if (late < LONG || !was_in[at] || (late < LONGEST && taken_by(&load.threads[at]) - had_taken[at] > late / 25))
+            load.threads[at].was_in = is_in ? client->place.number : 0;
+            load.threads[at].had_taken = is_in ? taken_by(&load.threads[at]) : 0;
+        } else if (!is_in || load.threads[at].was_in != client->place.number)
+            load.threads[at].was_in = 0;
+        if (late < LONG || !load.threads[at].was_in || (late < LONGEST && taken_by(&load.threads[at]) - load.threads[at].had_taken > late / 25))
             continue;
         kz_me = &load.threads[at].client;
         kz_put_place("ENDLESS", NULL, NULL);

@@ -1,5 +1,6 @@
 /* The program of c/build.sh: it runs the requests of files, each as a run of its own, or of its standard input, through the drivers that are linked with it; or a load with
  * threads. */
+#include "../core/coverage.h"
 #include "../core/near.h"
 #include "report.h"
 #include "kzflt.h"
@@ -242,6 +243,7 @@ static int explain(const char *id)
 int main(int count, char **words)
 {
     const char *name = words[0];
+    kz_count_lines();
     if (count == 3 && strcmp(words[1], "--explain") == 0)
         return explain(words[2]);
     if (count == 2 && strcmp(words[1], "--help") == 0)

@@ -3,6 +3,7 @@
 #
 #   host      the host: stored requests through drivers, expectations, reports, CMake, random requests
 #   legal     right drivers, of which nothing is reported: in order, under every schedule, by threads
+#   coverage  which lines of a driver ran: of its source and of both kinds of binaries, through a crash, schedules, threads
 #   misuse    drivers with mistakes, under threads and schedules
 #   explore   schedules
 #   sound     what the default search leaves out, by the ends of --whole: all scenarios, and random ones
@@ -54,6 +55,7 @@ least() {
         headers) echo 10000 ;;
         image) echo 60 ;; # with one of the toolchains
         cache) echo 20 ;;
+        coverage) echo 13 ;; # without a toolchain for binaries
         misuse) echo 16 ;;
         names) echo 28 ;;
         paging) echo 7 ;;

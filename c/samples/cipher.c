@@ -270,6 +270,19 @@ static FLT_POSTOP_CALLBACK_STATUS CipherPostRead(_Inout_ PFLT_CALLBACK_DATA Data
     return FLT_POSTOP_FINISHED_PROCESSING;
 }
 
+/* The caller's own buffer may be freed by its program meanwhile. */
+static NTSTATUS CipherTurnWrite(_Inout_ PCIPHER_SWAP Swap, _In_ const UCHAR *From, _In_ ULONG Length)
+{
+    NTSTATUS status = STATUS_SUCCESS;
+
+    try {
+        CipherTurn(Swap->Buffer, From, Length, Swap->Offset, Swap->Context->Key, FALSE);
+    } except (EXCEPTION_EXECUTE_HANDLER) {
+        status = GetExceptionCode();
+    }
+    return status;
+}
+
 static FLT_PREOP_CALLBACK_STATUS CipherPreWrite(_Inout_ PFLT_CALLBACK_DATA Data, _In_ PCFLT_RELATED_OBJECTS FltObjects, _Flt_CompletionContext_Outptr_ PVOID *CompletionContext)
 {
     PFLT_IO_PARAMETER_BLOCK iopb = Data->Iopb;
@@ -277,6 +290,7 @@ static FLT_PREOP_CALLBACK_STATUS CipherPreWrite(_Inout_ PFLT_CALLBACK_DATA Data,
     PCIPHER_CONTEXT context = CipherGetContext(FltObjects);
     PCIPHER_SWAP swap;
     PVOID original;
+    NTSTATUS status;
 
     if (context == NULL) {
         return FLT_PREOP_SUCCESS_NO_CALLBACK;
@@ -293,7 +307,13 @@ static FLT_PREOP_CALLBACK_STATUS CipherPreWrite(_Inout_ PFLT_CALLBACK_DATA Data,
         iopb->Parameters.Write.ByteOffset.QuadPart += CIPHER_HEADER;
     }
     swap->Offset = iopb->Parameters.Write.ByteOffset.QuadPart;
-    CipherTurn(swap->Buffer, original, length, swap->Offset, context->Key, FALSE);
+    status = CipherTurnWrite(swap, original, length);
+    if (!NT_SUCCESS(status)) {
+        CipherFreeSwap(swap);
+        Data->IoStatus.Status = status;
+        Data->IoStatus.Information = 0;
+        return FLT_PREOP_COMPLETE;
+    }
     iopb->Parameters.Write.WriteBuffer = swap->Buffer;
     iopb->Parameters.Write.MdlAddress = NULL;
     FltSetCallbackDataDirty(Data);
@@ -481,6 +501,23 @@ static FLT_PREOP_CALLBACK_STATUS CipherPreDirectory(_Inout_ PFLT_CALLBACK_DATA D
     return FLT_PREOP_SYNCHRONIZE;
 }
 
+static VOID CipherShortenEntries(_Inout_ PUCHAR At, _In_ ULONG Place)
+{
+    for (;;) {
+        PFILE_DIRECTORY_INFORMATION entry = (PFILE_DIRECTORY_INFORMATION)At;
+        UNICODE_STRING name = {(USHORT)entry->FileNameLength, (USHORT)entry->FileNameLength, (PWSTR)(At + Place)};
+
+        if (!FlagOn(entry->FileAttributes, FILE_ATTRIBUTE_DIRECTORY) && CipherIsName(&name)) {
+            CipherShorten(&entry->EndOfFile);
+            CipherShorten(&entry->AllocationSize);
+        }
+        if (entry->NextEntryOffset == 0) {
+            return;
+        }
+        At += entry->NextEntryOffset;
+    }
+}
+
 static FLT_POSTOP_CALLBACK_STATUS CipherPostDirectory(_Inout_ PFLT_CALLBACK_DATA Data, _In_ PCFLT_RELATED_OBJECTS FltObjects, _In_opt_ PVOID CompletionContext,
                                                       _In_ FLT_POST_OPERATION_FLAGS Flags)
 {
@@ -493,19 +530,13 @@ static FLT_POSTOP_CALLBACK_STATUS CipherPostDirectory(_Inout_ PFLT_CALLBACK_DATA
     if (FlagOn(Flags, FLTFL_POST_OPERATION_DRAINING) || !NT_SUCCESS(Data->IoStatus.Status) || Data->IoStatus.Information == 0) {
         return FLT_POSTOP_FINISHED_PROCESSING;
     }
-    for (;;) {
-        PFILE_DIRECTORY_INFORMATION entry = (PFILE_DIRECTORY_INFORMATION)at;
-        UNICODE_STRING name = {(USHORT)entry->FileNameLength, (USHORT)entry->FileNameLength, (PWSTR)(at + place)};
-
-        if (!FlagOn(entry->FileAttributes, FILE_ATTRIBUTE_DIRECTORY) && CipherIsName(&name)) {
-            CipherShorten(&entry->EndOfFile);
-            CipherShorten(&entry->AllocationSize);
-        }
-        if (entry->NextEntryOffset == 0) {
-            return FLT_POSTOP_FINISHED_PROCESSING;
-        }
-        at += entry->NextEntryOffset;
+    try {
+        CipherShortenEntries(at, place);
+    } except (EXCEPTION_EXECUTE_HANDLER) {
+        Data->IoStatus.Status = GetExceptionCode();
+        Data->IoStatus.Information = 0;
     }
+    return FLT_POSTOP_FINISHED_PROCESSING;
 }
 
 /* ---- Locks of bytes. */

@@ -95,15 +95,32 @@ static NTSTATUS OpenSection(PDATASCAN Scan, PDATASCAN_SECTION Answer)
     return STATUS_SUCCESS;
 }
 
+/* A message's buffers are the program's own, which may free them meanwhile: they are copied under a guard. */
+static NTSTATUS TakeBytes(PVOID To, PVOID From, ULONG Length)
+{
+    NTSTATUS status = STATUS_SUCCESS;
+
+    try {
+        RtlCopyMemory(To, From, Length);
+    } except (EXCEPTION_EXECUTE_HANDLER) {
+        status = GetExceptionCode();
+    }
+    return status;
+}
+
 static NTSTATUS Carry(PDATASCAN Scan, PDATASCAN_COMMAND Command, PVOID Output, ULONG OutputLength, PULONG Returned)
 {
     NTSTATUS status = STATUS_SUCCESS;
+    DATASCAN_SECTION answer = {0};
 
     if (Command->Kind == DataScanOpen) {
         if (Output == NULL || OutputLength < sizeof(DATASCAN_SECTION)) {
             return STATUS_INVALID_PARAMETER;
         }
-        status = OpenSection(Scan, Output);
+        status = OpenSection(Scan, &answer);
+        if (NT_SUCCESS(status)) {
+            status = TakeBytes(Output, &answer, sizeof(answer));
+        }
         *Returned = NT_SUCCESS(status) ? sizeof(DATASCAN_SECTION) : 0;
     } else {
         CloseSection(Scan);
@@ -115,20 +132,24 @@ static NTSTATUS Carry(PDATASCAN Scan, PDATASCAN_COMMAND Command, PVOID Output, U
 
 static NTSTATUS Message(PVOID Cookie, PVOID Input, ULONG InputLength, PVOID Output, ULONG OutputLength, PULONG Returned)
 {
-    PDATASCAN_COMMAND command = Input;
+    DATASCAN_COMMAND command;
     PDATASCAN scan;
     NTSTATUS status;
 
     UNREFERENCED_PARAMETER(Cookie);
     *Returned = 0;
-    if (command == NULL || InputLength != sizeof(DATASCAN_COMMAND)) {
+    if (Input == NULL || InputLength != sizeof(DATASCAN_COMMAND)) {
         return STATUS_INVALID_PARAMETER;
     }
-    scan = FindScan(command->Id);
+    status = TakeBytes(&command, Input, sizeof(command));
+    if (!NT_SUCCESS(status)) {
+        return status;
+    }
+    scan = FindScan(command.Id);
     if (scan == NULL) {
         return STATUS_NOT_FOUND;
     }
-    status = Carry(scan, command, Output, OutputLength, Returned);
+    status = Carry(scan, &command, Output, OutputLength, Returned);
     ExReleaseRundownProtection(&scan->InUse);
     return status;
 }

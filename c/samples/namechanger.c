@@ -138,26 +138,36 @@ static FLT_PREOP_CALLBACK_STATUS ChangerPreDirectory(_Inout_ PFLT_CALLBACK_DATA 
     return FLT_PREOP_SYNCHRONIZE;
 }
 
-static FLT_POSTOP_CALLBACK_STATUS ChangerPostDirectory(_Inout_ PFLT_CALLBACK_DATA Data, _In_ PCFLT_RELATED_OBJECTS FltObjects, _In_opt_ PVOID CompletionContext, _In_ FLT_POST_OPERATION_FLAGS Flags)
+static VOID ChangerChangeEntries(_Inout_ PUCHAR At)
 {
-    PUCHAR at = Data->Iopb->Parameters.DirectoryControl.QueryDirectory.DirectoryBuffer;
     UNICODE_STRING real = {BYTES - sizeof(WCHAR), BYTES - sizeof(WCHAR), (PWSTR)gReal + 1}, name;
     PFILE_NAMES_INFORMATION entry;
 
-    UNREFERENCED_PARAMETER(FltObjects);
-    UNREFERENCED_PARAMETER(CompletionContext);
-    if (FlagOn(Flags, FLTFL_POST_OPERATION_DRAINING) || !NT_SUCCESS(Data->IoStatus.Status)) {
-        return FLT_POSTOP_FINISHED_PROCESSING;
-    }
     do {
-        entry = (PFILE_NAMES_INFORMATION)at;
+        entry = (PFILE_NAMES_INFORMATION)At;
         name.Length = name.MaximumLength = (USHORT)entry->FileNameLength;
         name.Buffer = entry->FileName;
         if (RtlEqualUnicodeString(&name, &real, TRUE)) {
             RtlCopyMemory(entry->FileName, gSeen + 1, CHANGER_LETTERS * sizeof(WCHAR));
         }
-        at += entry->NextEntryOffset;
+        At += entry->NextEntryOffset;
     } while (entry->NextEntryOffset != 0);
+}
+
+/* The program may free its buffer meanwhile. */
+static FLT_POSTOP_CALLBACK_STATUS ChangerPostDirectory(_Inout_ PFLT_CALLBACK_DATA Data, _In_ PCFLT_RELATED_OBJECTS FltObjects, _In_opt_ PVOID CompletionContext, _In_ FLT_POST_OPERATION_FLAGS Flags)
+{
+    UNREFERENCED_PARAMETER(FltObjects);
+    UNREFERENCED_PARAMETER(CompletionContext);
+    if (FlagOn(Flags, FLTFL_POST_OPERATION_DRAINING) || !NT_SUCCESS(Data->IoStatus.Status)) {
+        return FLT_POSTOP_FINISHED_PROCESSING;
+    }
+    try {
+        ChangerChangeEntries(Data->Iopb->Parameters.DirectoryControl.QueryDirectory.DirectoryBuffer);
+    } except (EXCEPTION_EXECUTE_HANDLER) {
+        Data->IoStatus.Status = GetExceptionCode();
+        Data->IoStatus.Information = 0;
+    }
     return FLT_POSTOP_FINISHED_PROCESSING;
 }
 

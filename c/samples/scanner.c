@@ -44,6 +44,19 @@ static BOOLEAN ScannerIsFoul(_In_reads_bytes_(Length) const UCHAR *Buffer, _In_ 
     return FALSE;
 }
 
+/* The caller's own buffer may be freed by its program meanwhile. */
+static NTSTATUS ScannerLook(_In_reads_bytes_(Length) const UCHAR *Buffer, _In_ ULONG Length, _Out_ PBOOLEAN IsFoul)
+{
+    NTSTATUS status = STATUS_SUCCESS;
+
+    try {
+        *IsFoul = ScannerIsFoul(Buffer, Length);
+    } except (EXCEPTION_EXECUTE_HANDLER) {
+        status = GetExceptionCode();
+    }
+    return status;
+}
+
 /* A handle on a file that is scanned has a context. */
 static FLT_POSTOP_CALLBACK_STATUS ScannerPostCreate(_Inout_ PFLT_CALLBACK_DATA Data, _In_ PCFLT_RELATED_OBJECTS FltObjects,
                                                     _In_opt_ PVOID CompletionContext, _In_ FLT_POST_OPERATION_FLAGS Flags)
@@ -76,7 +89,9 @@ static FLT_PREOP_CALLBACK_STATUS ScannerPreWrite(_Inout_ PFLT_CALLBACK_DATA Data
 {
     PSCANNER_STREAM_HANDLE_CONTEXT scannerContext;
     FLT_PREOP_CALLBACK_STATUS returnStatus = FLT_PREOP_SUCCESS_NO_CALLBACK;
+    BOOLEAN isFoul;
     PVOID buffer;
+    NTSTATUS status;
 
     UNREFERENCED_PARAMETER(CompletionContext);
 
@@ -88,7 +103,12 @@ static FLT_PREOP_CALLBACK_STATUS ScannerPreWrite(_Inout_ PFLT_CALLBACK_DATA Data
     } else {
         buffer = Data->Iopb->Parameters.Write.WriteBuffer;
     }
-    if (ScannerIsFoul(buffer, Data->Iopb->Parameters.Write.Length)) {
+    status = buffer == NULL ? STATUS_INSUFFICIENT_RESOURCES : ScannerLook(buffer, Data->Iopb->Parameters.Write.Length, &isFoul);
+    if (!NT_SUCCESS(status)) {
+        Data->IoStatus.Status = status;
+        Data->IoStatus.Information = 0;
+        returnStatus = FLT_PREOP_COMPLETE;
+    } else if (isFoul) {
         DbgPrint("Scanner: a foul write of %u bytes is denied\n", Data->Iopb->Parameters.Write.Length);
         InterlockedIncrement(&scannerContext->Denied);
         Data->IoStatus.Status = STATUS_ACCESS_DENIED;

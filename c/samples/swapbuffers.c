@@ -35,6 +35,19 @@ static VOID TurnBytes(_Out_ PUCHAR To, _In_ const UCHAR *From, _In_ SIZE_T Lengt
     }
 }
 
+/* The caller's own buffer may be freed by its program meanwhile. */
+static NTSTATUS TurnCallersBytes(_Out_ PUCHAR To, _In_ const UCHAR *From, _In_ SIZE_T Length)
+{
+    NTSTATUS status = STATUS_SUCCESS;
+
+    try {
+        TurnBytes(To, From, Length);
+    } except (EXCEPTION_EXECUTE_HANDLER) {
+        status = GetExceptionCode();
+    }
+    return status;
+}
+
 static VOID CleanupVolumeContext(_In_ PFLT_CONTEXT Context, _In_ FLT_CONTEXT_TYPE ContextType)
 {
     PVOLUME_CONTEXT ctx = Context;
@@ -107,11 +120,11 @@ static PPRE_2_POST_CONTEXT NewSwap(_In_ PVOLUME_CONTEXT VolCtx, _In_ ULONG Lengt
     return p2pCtx;
 }
 
-/* Without memory the operation fails: what is written mustn't come to the disk as it is. */
-static FLT_PREOP_CALLBACK_STATUS Fail(_Inout_ PFLT_CALLBACK_DATA Data, _In_ PVOLUME_CONTEXT VolCtx)
+/* The operation fails: what is written mustn't come to the disk as it is. */
+static FLT_PREOP_CALLBACK_STATUS Fail(_Inout_ PFLT_CALLBACK_DATA Data, _In_ PVOLUME_CONTEXT VolCtx, _In_ NTSTATUS Status)
 {
     FltReleaseContext(VolCtx);
-    Data->IoStatus.Status = STATUS_INSUFFICIENT_RESOURCES;
+    Data->IoStatus.Status = Status;
     Data->IoStatus.Information = 0;
     return FLT_PREOP_COMPLETE;
 }
@@ -142,7 +155,7 @@ static FLT_PREOP_CALLBACK_STATUS SwapPreReadBuffers(_Inout_ PFLT_CALLBACK_DATA D
     }
     p2pCtx = NewSwap(volCtx, iopb->Parameters.Read.Length, &newMdl);
     if (p2pCtx == NULL) {
-        return Fail(Data, volCtx);
+        return Fail(Data, volCtx, STATUS_INSUFFICIENT_RESOURCES);
     }
     iopb->Parameters.Read.ReadBuffer = p2pCtx->SwappedBuffer;
     iopb->Parameters.Read.MdlAddress = newMdl;
@@ -214,6 +227,7 @@ static FLT_PREOP_CALLBACK_STATUS SwapPreWriteBuffers(_Inout_ PFLT_CALLBACK_DATA 
     PVOLUME_CONTEXT volCtx;
     PVOID origBuf;
     PMDL newMdl;
+    NTSTATUS status;
 
     if (!IsOfDisk(Data) || iopb->Parameters.Write.Length == 0 || !NT_SUCCESS(FltGetVolumeContext(FltObjects->Filter, FltObjects->Volume, (PFLT_CONTEXT *)&volCtx))) {
         return FLT_PREOP_SUCCESS_NO_CALLBACK;
@@ -221,9 +235,15 @@ static FLT_PREOP_CALLBACK_STATUS SwapPreWriteBuffers(_Inout_ PFLT_CALLBACK_DATA 
     origBuf = iopb->Parameters.Write.MdlAddress != NULL ? MmGetSystemAddressForMdlSafe(iopb->Parameters.Write.MdlAddress, NormalPagePriority) : iopb->Parameters.Write.WriteBuffer;
     p2pCtx = origBuf == NULL ? NULL : NewSwap(volCtx, iopb->Parameters.Write.Length, &newMdl);
     if (p2pCtx == NULL) {
-        return Fail(Data, volCtx);
+        return Fail(Data, volCtx, STATUS_INSUFFICIENT_RESOURCES);
     }
-    TurnBytes(p2pCtx->SwappedBuffer, origBuf, iopb->Parameters.Write.Length);
+    status = TurnCallersBytes(p2pCtx->SwappedBuffer, origBuf, iopb->Parameters.Write.Length);
+    if (!NT_SUCCESS(status)) {
+        IoFreeMdl(newMdl);
+        ExFreePoolWithTag(p2pCtx->SwappedBuffer, BUFFER_SWAP_TAG);
+        ExFreeToNPagedLookasideList(&Pre2PostContextList, p2pCtx);
+        return Fail(Data, volCtx, status);
+    }
     iopb->Parameters.Write.WriteBuffer = p2pCtx->SwappedBuffer;
     iopb->Parameters.Write.MdlAddress = newMdl;
     FltSetCallbackDataDirty(Data);

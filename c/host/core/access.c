@@ -1,5 +1,5 @@
-/* Memory that isn't everybody's. What can be paged out may not be touched at DISPATCH_LEVEL. A caller's own buffer may not be either, nor by another process, unless an MDL has its pages. What the
- * manager hands out may not be written. In a plain program the pages of such memory are shut while a driver's code runs that may not touch them. Nothing is shut under the address sanitizer,
+/* Memory that isn't everybody's. What can be paged out may not be touched at DISPATCH_LEVEL. A caller's own buffer may not be either, nor by another process, nor outside of a try block, unless an MDL
+ * has its pages. What the manager hands out may not be written. In a plain program the pages of such memory are shut while a driver's code runs that may not touch them. Nothing is shut under the address sanitizer,
  * beyond the number of pieces that have pages of their own, and where several threads run for whom another one touched it first. */
 #define _GNU_SOURCE
 #include "core/access.h"
@@ -22,6 +22,7 @@ struct KzAccessState {
     uint64_t process;
     bool is_any_shut;  /* to reads too */
     bool is_any_open;  /* to the host, though the driver whose call it is in may not touch it */
+    bool is_any_let;   /* of a caller's, to code in a try block */
     bool is_code_shut; /* functions of `#pragma alloc_text(PAGE, ..)` */
     /* In which callback a touch was told last, where, and of what: one copy touches much. */
     uint64_t told_in;
@@ -55,6 +56,18 @@ static bool may_touch(const KzPiece *piece, bool is_high, uint64_t process, bool
     default:
         return true;
     }
+}
+
+bool kz_is_in_try(void)
+{
+    const KzTry *innermost = kz_me->tries.innermost;
+    return innermost && innermost->callback == kz_me->place.number;
+}
+
+/* Its program may free it, or take rights away from it, while a driver touches it. */
+static bool wants_try(const KzPiece *piece)
+{
+    return piece->owner == KZ_CALLERS && !piece->locks;
 }
 
 static void give_rights(KzPiece *piece, int rights)
@@ -136,7 +149,8 @@ void kz_shut_owned(void)
     all->process = kz_me->process;
     all->is_any_open = false;
     for (KzPiece *piece = all->first; piece; piece = piece->owned) {
-        bool reads = may_touch(piece, is_high, all->process, false), writes = may_touch(piece, is_high, all->process, true);
+        bool is_callers = wants_try(piece);
+        bool reads = !is_callers && may_touch(piece, is_high, all->process, false), writes = !is_callers && may_touch(piece, is_high, all->process, true);
         piece->is_let &= !is_new;
         if (!piece->is_let)
             give_rights(piece, (reads ? PROT_READ : 0) | (writes ? PROT_WRITE : 0));
@@ -144,9 +158,27 @@ void kz_shut_owned(void)
     }
 }
 
+static void take_back(void)
+{
+    kz.access->is_any_let = false;
+    for (KzPiece *piece = kz.access->first; piece; piece = piece->owned)
+        piece->is_let &= !wants_try(piece);
+}
+
+void kz_shut_callers(void)
+{
+    if (!kz.access || !kz.access->is_any_let)
+        return;
+    KZ_INSIDE_UNSAID();
+    take_back();
+    kz.access->is_any_open = true;
+}
+
 void kz_open_all_owned(void)
 {
     struct KzAccessState *all = kz.access;
+    if (all->is_any_let)
+        take_back();
     if (!all->is_any_shut)
         return;
     all->is_any_shut = false;
@@ -180,12 +212,24 @@ void kz_must_be_there(const void *object, const char *kind, const char *call)
         kz_tell_of(object, KZM_PAGED_OBJECT, call, "%s in memory that can be paged out", kind);
 }
 
+/* Of a binary only the code's own place in its tables says so. */
+void kz_must_be_in_try(const char *call, const void *from, const char *why)
+{
+    if (kz_me->inside > 0 || kz_is_in_try() || kz_is_binary(from))
+        return;
+    KZ_INSIDE_FROM(call, from);
+    kz_uses_own();
+    kz_tell(KZM_OUTSIDE_TRY, call, "called outside of a __try: it raises an exception if %s", why);
+}
+
 /* The call that is meant, and what is told of it. */
 static const char *subject_of(const KzPiece *piece)
 {
     if (piece->owner == KZ_PAGED)
         return piece->kind == KZK_CONTEXT ? "FLT_CONTEXT_REGISTRATION" : "PagedPool";
-    return piece->owner == KZ_MANAGERS ? "FLT_FILE_NAME_INFORMATION" : "FltLockUserBuffer";
+    if (piece->owner == KZ_MANAGERS)
+        return "FLT_FILE_NAME_INFORMATION";
+    return may_touch(piece, kz_irql() >= DISPATCH_LEVEL, kz_me->process, false) ? "__try" : "FltLockUserBuffer";
 }
 
 static void tell(const KzPiece *piece, bool is_written)
@@ -199,6 +243,8 @@ static void tell(const KzPiece *piece, bool is_written)
         kz_tell(KZM_IRQL, call, "%llu bytes that can be paged out%s are %s at IRQL %u", size, taken, how, kz_irql());
     else if (piece->owner == KZ_MANAGERS)
         kz_tell(KZM_NOT_OWN_MEMORY, call, "%llu bytes of a name%s are written: they are the filter manager's, which gives them to each filter", size, taken);
+    else if (may_touch(piece, kz_irql() >= DISPATCH_LEVEL, kz_me->process, is_written))
+        kz_tell(KZM_OUTSIDE_TRY, call, "none stands around this: %llu bytes of a program's own memory are %s, which it may free meanwhile", size, how);
     else if (kz_irql() >= DISPATCH_LEVEL)
         kz_tell(KZM_IRQL, call, "never called for the caller's own buffer of %llu bytes, which is %s at IRQL %u", size, how, kz_irql());
     else
@@ -245,26 +291,40 @@ static void tell_code(const void *code)
     kz_me->place = before;
 }
 
-bool kz_touched_owned(const void *address, const void *code, const void *caller, bool is_written)
+/* What a driver may not do there. A program's own code is no driver's. */
+static bool is_wrong(const KzPiece *piece, const void *from, bool is_in_try, bool is_written)
+{
+    return !may_touch(piece, kz_irql() >= DISPATCH_LEVEL, kz_me->process, is_written) || (wants_try(piece) && !is_in_try && from);
+}
+
+static void look_at_touch(KzPiece *piece, const KzTouched *touch, bool is_inside)
+{
+    const void *from = is_inside ? NULL : kz_drivers_code(touch->code, touch->caller);
+    if (touch->is_written && !lies_in(touch->address, piece))
+        kz_tell_past(piece, (const uint8_t *)touch->address >= piece->body, true, from);
+    else if (is_wrong(piece, is_inside ? kz_me->place.from : from, touch->is_in_try, touch->is_written))
+        tell_at(piece, from, touch->is_written);
+}
+
+bool kz_touched_owned(const KzTouched *touch)
 {
     KZ_INSIDE_UNSAID();
-    if (is_paged_code(address)) {
+    if (is_paged_code(touch->address)) {
         set_code(false);
         if (kz_irql() >= DISPATCH_LEVEL)
-            tell_code(code);
+            tell_code(touch->code);
         return true;
     }
     KzPiece *piece = kz.access->first;
-    while (piece && (!piece->pages || (uintptr_t)address - (uintptr_t)piece->pages >= piece->pages_size))
+    while (piece && (!piece->pages || (uintptr_t)touch->address - (uintptr_t)piece->pages >= piece->pages_size))
         piece = piece->owned;
-    if (!piece || piece->rights & (is_written ? PROT_WRITE : PROT_READ))
+    if (!piece || piece->rights & (touch->is_written ? PROT_WRITE : PROT_READ))
         return piece != NULL; /* another thread has opened it since */
-    bool is_hosts = kz_depth > 0 && !kz_is_in_drivers_place(), is_past = is_written && !lies_in(address, piece);
-    if (is_past && !is_hosts)
-        kz_tell_past(piece, (const uint8_t *)address >= piece->body, true, kz_depth > 0 ? NULL : kz_drivers_code(code, caller));
-    else if (!is_hosts && !may_touch(piece, kz_irql() >= DISPATCH_LEVEL, kz_me->process, is_written))
-        tell_at(piece, kz_depth > 0 ? NULL : kz_drivers_code(code, caller), is_written);
+    bool is_hosts = kz_depth > 0 && !kz_is_in_drivers_place();
+    if (!is_hosts)
+        look_at_touch(piece, touch, kz_depth > 0);
     piece->is_let = !is_hosts;
+    kz.access->is_any_let |= wants_try(piece);
     kz.access->is_any_open = true;
     give_rights(piece, OPEN);
     return true;
@@ -283,10 +343,9 @@ void kz_look_at_owned(const void *address, size_t size, const void *from, bool i
 {
     if (!kz.access || !kz.access->first)
         return;
-    bool is_high = kz_irql() >= DISPATCH_LEVEL;
     for (KzPiece *piece = kz.access->first; piece; piece = piece->owned) {
         bool is_there = lies_in(address, piece) || lies_in(piece->body, &(KzPiece){.body = (uint8_t *)(uintptr_t)address, .size = size});
-        if (!is_there || may_touch(piece, is_high, kz_me->process, is_written))
+        if (!is_there || !is_wrong(piece, kz_is_binary(from) ? NULL : from, kz_is_in_try(), is_written))
             continue;
         KZ_INSIDE_UNSAID();
         tell_at(piece, from, is_written);

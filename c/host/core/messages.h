@@ -105,6 +105,8 @@ enum {
     KZM_READ_ONLY = 194,
     /* Its stack. */
     KZM_STACK = 195,
+    /* Its programs' memory. */
+    KZM_OUTSIDE_TRY = 196,
 
     /* Contexts. */
     KZM_HAND_IS_FULL = 201,

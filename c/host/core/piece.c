@@ -491,10 +491,12 @@ static void tell_touch(const KzPiece *piece, bool is_written)
 }
 
 /* The driver's own code stands there, or code that it called. Reads see the bytes with which it was filled. */
-bool kz_touched(const void *address, const void *code, const void *caller, bool is_written)
+bool kz_touched(const KzTouched *touch)
 {
     char line[100];
-    if (kz_touched_owned(address, code, caller, is_written) || kz_touched_edge(address, code, caller, is_written))
+    const void *address = touch->address, *code = touch->code;
+    bool is_written = touch->is_written;
+    if (kz_touched_owned(touch) || kz_touched_edge(address, code, touch->caller, is_written))
         return true;
     KZ_INSIDE_UNSAID();
     KzPiece *piece = shut_piece_at(address);

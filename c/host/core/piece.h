@@ -73,8 +73,13 @@ void kz_check_all_memory(PFLT_FILTER filter);
 void kz_check_blocks(const KzOp *op);
 void kz_tell_pools(PFLT_FILTER filter);
 void kz_tell_gone(void);
-/* Somebody touched what can't be: whether it is memory that was given back. That is told, and may be touched from then on. */
-bool kz_touched(const void *address, const void *code, const void *caller, bool is_written);
+/* A touch that the processor refused: by which code, and who called that, if it keeps nothing on the stack. A block that takes exceptions may stand around it. */
+typedef struct {
+    const void *address, *code, *caller;
+    bool is_written, is_in_try;
+} KzTouched;
+/* Whether it is of memory that was given back. That is told, and may be touched from then on. */
+bool kz_touched(const KzTouched *touch);
 extern const struct KzModule kz_piece_module;
 
 #endif

@@ -25,6 +25,8 @@ static PVOID take_pool(const char *call, bool is_paged, SIZE_T size, int fill, U
 /* A caller that asks for it gets an exception in place of NULL. */
 static PVOID or_raise(PVOID made, bool raises, const char *call, const void *from)
 {
+    if (raises)
+        kz_must_be_in_try(call, from, "there is no memory");
     if (!made && raises)
         kz_raise_for(call, STATUS_INSUFFICIENT_RESOURCES, from);
     return made;

@@ -118,6 +118,7 @@ void KzLeaveTry(KzTried *Tried)
 {
     void *back[5];
     kz_me->tries.innermost = Tried->block->outer;
+    kz_shut_callers();
     kz_me->tries.why = ENDED;
     if (!Tried->is_at_end)
         leave_block(Tried->block, back);

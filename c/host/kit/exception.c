@@ -1,4 +1,5 @@
 /* What a driver says itself: assertions, bug checks and exceptions. */
+#include "core/access.h"
 #include "core/client.h"
 #include "core/raise.h"
 #include "core/told.h"
@@ -71,10 +72,12 @@ static NTSTATUS probe(const volatile VOID *address, SIZE_T length, ULONG alignme
 
 VOID ProbeForRead(const volatile VOID *Address, SIZE_T Length, ULONG Alignment)
 {
+    kz_must_be_in_try("ProbeForRead", KZ_CALLER(), "that isn't the program's memory");
     raise_at("ProbeForRead", probe(Address, Length, Alignment), KZ_CALLER());
 }
 
 VOID ProbeForWrite(volatile VOID *Address, SIZE_T Length, ULONG Alignment)
 {
+    kz_must_be_in_try("ProbeForWrite", KZ_CALLER(), "that isn't the program's memory");
     raise_at("ProbeForWrite", probe(Address, Length, Alignment), KZ_CALLER());
 }

@@ -54,10 +54,12 @@ VOID MmBuildMdlForNonPagedPool(PMDL MemoryDescriptorList)
 
 VOID MmProbeAndLockPages(PMDL MemoryDescriptorList, KPROCESSOR_MODE AccessMode, LOCK_OPERATION Operation)
 {
+    if (AccessMode == UserMode)
+        kz_must_be_in_try("MmProbeAndLockPages", KZ_CALLER(), "the program has freed that memory");
     KZ_INSIDE_ALONE();
     kz_uses_bytes(MemoryDescriptorList, sizeof *MemoryDescriptorList, KZU_WRITES);
     kz_uses_object(MmGetMdlVirtualAddress(MemoryDescriptorList), KZU_WRITES);
-    (void)AccessMode, (void)Operation;
+    (void)Operation;
     MemoryDescriptorList->MdlFlags |= MDL_PAGES_LOCKED;
     kz_map_pages(MmGetMdlVirtualAddress(MemoryDescriptorList), true);
 }

@@ -1,8 +1,10 @@
 /* The parameters of an operation that the manager doesn't look into: what goes down, and the room for what comes up, are memory of the operation. */
 #include "manager/fill.h"
 
+#include "core/access.h"
 #include "core/op.h"
 #include "lib/letters.h"
+#include "manager/below.h"
 #include "manager/block.h"
 
 static void *input(KzOp *op, const KzAsked *asked)
@@ -12,10 +14,36 @@ static void *input(KzOp *op, const KzAsked *asked)
     return memcpy(kz_input_block(op, asked->input_size), asked->input, asked->input_size);
 }
 
+/* What the system doesn't copy is the program's own memory. */
+static bool is_programs(const KzOp *op, const KzAsked *asked)
+{
+    switch (asked->major) {
+    case IRP_MJ_DIRECTORY_CONTROL:
+    case IRP_MJ_QUERY_EA:
+    case IRP_MJ_QUERY_QUOTA:
+    case IRP_MJ_QUERY_SECURITY:
+        return kz_requestor_of(op) == UserMode && !(op->opaque->irp_flags & IRP_BUFFERED_IO);
+    case IRP_MJ_FILE_SYSTEM_CONTROL:
+    case IRP_MJ_DEVICE_CONTROL:
+        return kz_requestor_of(op) == UserMode && METHOD_FROM_CTL_CODE(asked->code) == METHOD_NEITHER;
+    default:
+        return false;
+    }
+}
+
+static void *room_for(KzOp *op, const KzAsked *asked)
+{
+    if (!is_programs(op, asked))
+        return kz_output_block(op, asked->room);
+    void *made = kz_caller_block(op, asked->room);
+    kz_own(made, KZ_CALLERS, op->process);
+    return made;
+}
+
 static void *output(KzOp *op, const KzAsked *asked)
 {
     op->opaque->output_size = asked->room;
-    return op->opaque->output = kz_output_block(op, asked->room);
+    return op->opaque->output = room_for(op, asked);
 }
 
 static PUNICODE_STRING pattern(KzOp *op, const char *text)
@@ -34,12 +62,14 @@ static void fill_control(KzOp *op, const KzAsked *asked, FLT_PARAMETERS *now)
     uint8_t *buffer = room ? kz_input_block(op, room) : NULL;
     if (asked->input_size)
         memcpy(buffer, asked->input, asked->input_size);
+    if (is_programs(op, asked))
+        kz_own(buffer, KZ_CALLERS, op->process);
     now->FileSystemControl.Buffered.InputBufferLength = (ULONG)asked->input_size;
     now->FileSystemControl.Buffered.OutputBufferLength = (ULONG)asked->room;
     now->FileSystemControl.Buffered.FsControlCode = asked->code;
     now->FileSystemControl.Buffered.SystemBuffer = buffer;
     if (METHOD_FROM_CTL_CODE(asked->code) == METHOD_NEITHER)
-        now->FileSystemControl.Neither.OutputBuffer = buffer = asked->room ? kz_output_block(op, asked->room) : NULL;
+        now->FileSystemControl.Neither.OutputBuffer = buffer = asked->room ? room_for(op, asked) : NULL;
     op->opaque->output = asked->room ? buffer : NULL;
     op->opaque->output_size = asked->room;
 }

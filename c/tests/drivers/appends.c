@@ -3,13 +3,25 @@
 
 static PFLT_FILTER filter;
 
+static BOOLEAN BeginsWithX(const CHAR *Bytes)
+{
+    BOOLEAN is = FALSE;
+
+    try {
+        is = *Bytes == 'x';
+    } except (EXCEPTION_EXECUTE_HANDLER) {
+        DbgPrint("Appends: the bytes are gone\n");
+    }
+    return is;
+}
+
 static FLT_PREOP_CALLBACK_STATUS PreWrite(PFLT_CALLBACK_DATA Data, PCFLT_RELATED_OBJECTS FltObjects, PVOID *CompletionContext)
 {
     PFLT_PARAMETERS parameters = &Data->Iopb->Parameters;
     UNREFERENCED_PARAMETER(FltObjects);
     UNREFERENCED_PARAMETER(CompletionContext);
     DbgPrint("Appends: write at %lld\n", parameters->Write.ByteOffset.QuadPart);
-    if (parameters->Write.Length && *(const char *)parameters->Write.WriteBuffer == 'x') {
+    if (parameters->Write.Length && BeginsWithX(parameters->Write.WriteBuffer)) {
         parameters->Write.ByteOffset.QuadPart = 0;
         FltSetCallbackDataDirty(Data);
     }

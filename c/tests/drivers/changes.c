@@ -38,7 +38,11 @@ static FLT_POSTOP_CALLBACK_STATUS PostRead(PFLT_CALLBACK_DATA Data, PCFLT_RELATE
     DbgPrint("read of %u at %lld answered %llu\n", Data->Iopb->Parameters.Read.Length, Data->Iopb->Parameters.Read.ByteOffset.QuadPart,
              (ULONGLONG)Data->IoStatus.Information);
     if (NT_SUCCESS(Data->IoStatus.Status)) {
-        *(PUCHAR)Data->Iopb->Parameters.Read.ReadBuffer = '-';
+        __try {
+            *(PUCHAR)Data->Iopb->Parameters.Read.ReadBuffer = '-';
+        } __except (EXCEPTION_EXECUTE_HANDLER) {
+            Data->IoStatus.Status = GetExceptionCode();
+        }
     } else {
         Data->IoStatus.Status = STATUS_ACCESS_DENIED;
     }
@@ -93,11 +97,15 @@ static FLT_PREOP_CALLBACK_STATUS PreSet(PFLT_CALLBACK_DATA Data, PCFLT_RELATED_O
 static FLT_POSTOP_CALLBACK_STATUS PostList(PFLT_CALLBACK_DATA Data, PCFLT_RELATED_OBJECTS FltObjects, PVOID CompletionContext, FLT_POST_OPERATION_FLAGS Flags)
 {
     PUCHAR first = Data->Iopb->Parameters.DirectoryControl.QueryDirectory.DirectoryBuffer;
-    ULONG next = ((PFILE_NAMES_INFORMATION)first)->NextEntryOffset;
+    ULONG next;
 
     UNREFERENCED_PARAMETER(FltObjects);
     UNREFERENCED_PARAMETER(CompletionContext);
     UNREFERENCED_PARAMETER(Flags);
+    if (!NT_SUCCESS(FltLockUserBuffer(Data))) {
+        return FLT_POSTOP_FINISHED_PROCESSING;
+    }
+    next = ((PFILE_NAMES_INFORMATION)first)->NextEntryOffset;
     if (next == 0) {
         Data->IoStatus.Information = 0;
     } else {

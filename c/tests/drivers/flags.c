@@ -102,7 +102,11 @@ static FLT_POSTOP_CALLBACK_STATUS PostList(PFLT_CALLBACK_DATA Data, PCFLT_RELATE
 
     UNREFERENCED_PARAMETER(FltObjects);
     if (!FlagOn(Flags, FLTFL_POST_OPERATION_DRAINING) && NT_SUCCESS(Data->IoStatus.Status)) {
-        RtlCopyMemory(was->DirectoryControl.QueryDirectory.DirectoryBuffer, CompletionContext, Data->IoStatus.Information);
+        __try {
+            RtlCopyMemory(was->DirectoryControl.QueryDirectory.DirectoryBuffer, CompletionContext, Data->IoStatus.Information);
+        } __except (EXCEPTION_EXECUTE_HANDLER) {
+            Data->IoStatus.Status = GetExceptionCode();
+        }
     }
     ExFreePoolWithTag(CompletionContext, TAG);
     return FLT_POSTOP_FINISHED_PROCESSING;

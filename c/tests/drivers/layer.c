@@ -65,6 +65,19 @@ static VOID Turn(PUCHAR To, const UCHAR *From, ULONG Length, LONGLONG At, BOOLEA
 }
 #endif
 
+/* Bytes of a caller's own, which its program may free meanwhile. */
+static NTSTATUS TurnCallers(PUCHAR To, const UCHAR *From, ULONG Length, LONGLONG At, BOOLEAN IsOut)
+{
+    NTSTATUS status = STATUS_SUCCESS;
+
+    try {
+        Turn(To, From, Length, At, IsOut);
+    } except (EXCEPTION_EXECUTE_HANDLER) {
+        status = GetExceptionCode();
+    }
+    return status;
+}
+
 /* Memory of the layer's own, with an MDL; the manager frees that one. */
 static PUCHAR NewBuffer(ULONG Length, PMDL *Mdl)
 {
@@ -81,9 +94,9 @@ static PUCHAR NewBuffer(ULONG Length, PMDL *Mdl)
     return buffer;
 }
 
-static FLT_PREOP_CALLBACK_STATUS Fail(PFLT_CALLBACK_DATA Data)
+static FLT_PREOP_CALLBACK_STATUS Fail(PFLT_CALLBACK_DATA Data, NTSTATUS Status)
 {
-    Data->IoStatus.Status = STATUS_INSUFFICIENT_RESOURCES;
+    Data->IoStatus.Status = Status;
     Data->IoStatus.Information = 0;
     return FLT_PREOP_COMPLETE;
 }
@@ -104,7 +117,7 @@ static FLT_PREOP_CALLBACK_STATUS PreRead(PFLT_CALLBACK_DATA Data, PCFLT_RELATED_
 #endif
     buffer = NewBuffer(iopb->Parameters.Read.Length, &mdl);
     if (buffer == NULL) {
-        return Fail(Data);
+        return Fail(Data, STATUS_INSUFFICIENT_RESOURCES);
     }
     iopb->Parameters.Read.ReadBuffer = buffer;
     iopb->Parameters.Read.MdlAddress = mdl;
@@ -122,7 +135,7 @@ static FLT_POSTOP_CALLBACK_STATUS PostRead(PFLT_CALLBACK_DATA Data, PCFLT_RELATE
     if (!FlagOn(Flags, FLTFL_POST_OPERATION_DRAINING) && NT_SUCCESS(Data->IoStatus.Status)) {
         to = iopb->Parameters.Read.MdlAddress != NULL ? MmGetSystemAddressForMdlSafe(iopb->Parameters.Read.MdlAddress, NormalPagePriority) : iopb->Parameters.Read.ReadBuffer;
         if (to != NULL) {
-            Turn(to, CompletionContext, (ULONG)Data->IoStatus.Information, iopb->Parameters.Read.ByteOffset.QuadPart, FALSE);
+            Data->IoStatus.Status = TurnCallers(to, CompletionContext, (ULONG)Data->IoStatus.Information, iopb->Parameters.Read.ByteOffset.QuadPart, FALSE);
         }
 #ifdef LAYER_FEW
         Data->IoStatus.Information = min(Data->IoStatus.Information, 8);
@@ -162,6 +175,7 @@ static FLT_PREOP_CALLBACK_STATUS PreWrite(PFLT_CALLBACK_DATA Data, PCFLT_RELATED
     ULONG length = iopb->Parameters.Write.Length;
     PUCHAR buffer, from;
     PMDL mdl;
+    NTSTATUS status;
 
     UNREFERENCED_PARAMETER(FltObjects);
 #ifdef LAYER_LOCK
@@ -181,14 +195,19 @@ static FLT_PREOP_CALLBACK_STATUS PreWrite(PFLT_CALLBACK_DATA Data, PCFLT_RELATED
     }
     from = iopb->Parameters.Write.MdlAddress != NULL ? MmGetSystemAddressForMdlSafe(iopb->Parameters.Write.MdlAddress, NormalPagePriority) : iopb->Parameters.Write.WriteBuffer;
 #ifdef LAYER_PLACE
-    Turn(from, from, length, iopb->Parameters.Write.ByteOffset.QuadPart, TRUE);
+    TurnCallers(from, from, length, iopb->Parameters.Write.ByteOffset.QuadPart, TRUE);
     return FLT_PREOP_SUCCESS_NO_CALLBACK;
 #endif
     buffer = from != NULL ? NewBuffer(length, &mdl) : NULL;
     if (buffer == NULL) {
-        return Fail(Data);
+        return Fail(Data, STATUS_INSUFFICIENT_RESOURCES);
     }
-    Turn(buffer, from, length, iopb->Parameters.Write.ByteOffset.QuadPart, TRUE);
+    status = TurnCallers(buffer, from, length, iopb->Parameters.Write.ByteOffset.QuadPart, TRUE);
+    if (!NT_SUCCESS(status)) {
+        IoFreeMdl(mdl);
+        ExFreePoolWithTag(buffer, LAYER_TAG);
+        return Fail(Data, status);
+    }
     iopb->Parameters.Write.WriteBuffer = buffer;
     iopb->Parameters.Write.MdlAddress = mdl;
     FltSetCallbackDataDirty(Data);
@@ -220,7 +239,7 @@ static FLT_PREOP_CALLBACK_STATUS PreSet(PFLT_CALLBACK_DATA Data, PCFLT_RELATED_O
     }
     size = ExAllocatePoolWithTag(NonPagedPool, LAYER_SECTOR, LAYER_TAG);
     if (size == NULL) {
-        return Fail(Data);
+        return Fail(Data, STATUS_INSUFFICIENT_RESOURCES);
     }
     *size = standard.EndOfFile.QuadPart;
     *CompletionContext = size;

@@ -81,6 +81,16 @@ static VOID Work(PFLT_GENERIC_WORKITEM WorkItem, PVOID FltObject, PVOID Context)
     FltFreeGenericWorkItem(WorkItem);
 }
 
+static NTSTATUS CopyToCaller(PVOID To, const VOID *From, SIZE_T Length)
+{
+    __try {
+        RtlCopyMemory(To, From, Length);
+    } __except (EXCEPTION_EXECUTE_HANDLER) {
+        return GetExceptionCode();
+    }
+    return STATUS_SUCCESS;
+}
+
 static FLT_PREOP_CALLBACK_STATUS PreRead(PFLT_CALLBACK_DATA Data, PCFLT_RELATED_OBJECTS FltObjects, PVOID *CompletionContext)
 {
     FLT_RELATED_CONTEXTS contexts;
@@ -96,8 +106,7 @@ static FLT_PREOP_CALLBACK_STATUS PreRead(PFLT_CALLBACK_DATA Data, PCFLT_RELATED_
         }
         return FLT_PREOP_SUCCESS_NO_CALLBACK;
     case 2: /* Completed with bytes. */
-        RtlCopyMemory(Data->Iopb->Parameters.Read.ReadBuffer, "cache", 5);
-        Data->IoStatus.Status = STATUS_SUCCESS;
+        Data->IoStatus.Status = CopyToCaller(Data->Iopb->Parameters.Read.ReadBuffer, "cache", 5);
         Data->IoStatus.Information = 5;
         return FLT_PREOP_COMPLETE;
     case 3: /* Completed with a status that the manager hasn't. */

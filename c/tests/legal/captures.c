@@ -1,4 +1,4 @@
-/* A write's bytes are a command with its own length: it is captured, and the copy is looked at and used; so is an answer of the file system, by the MDL of its buffer. Of the caller's own buffer only what may
+/* A write's bytes are a command with its own length: it is captured under a guard, and the copy is looked at and used; so is an answer of the file system, by the MDL of its buffer. Of the caller's own buffer only what may
  * be anything is read again. Nothing of it is told, whatever the program changes meanwhile. */
 #include <fltKernel.h>
 
@@ -21,10 +21,14 @@ static FLT_PREOP_CALLBACK_STATUS PreWrite(PFLT_CALLBACK_DATA Data, PCFLT_RELATED
     if (Data->Iopb->Parameters.Write.Length < sizeof(COMMAND)) {
         return FLT_PREOP_SUCCESS_NO_CALLBACK;
     }
-    if (bytes[0] == 4) {
-        InterlockedIncrement(&gMarked);
+    __try {
+        if (bytes[0] == 4) {
+            InterlockedIncrement(&gMarked);
+        }
+        RtlCopyMemory(&command, bytes, sizeof(COMMAND));
+    } __except (EXCEPTION_EXECUTE_HANDLER) {
+        return FLT_PREOP_SUCCESS_NO_CALLBACK;
     }
-    RtlCopyMemory(&command, bytes, sizeof(COMMAND));
     if (command.Length > sizeof(copy)) {
         return FLT_PREOP_SUCCESS_NO_CALLBACK;
     }

@@ -64,8 +64,12 @@ static FLT_PREOP_CALLBACK_STATUS PreWrite(PFLT_CALLBACK_DATA Data, PCFLT_RELATED
 
     UNREFERENCED_PARAMETER(FltObjects);
     UNREFERENCED_PARAMETER(CompletionContext);
-    for (at = 0; at < Data->Iopb->Parameters.Write.Length; at++) {
-        gSum += bytes[at];
+    __try {
+        for (at = 0; at < Data->Iopb->Parameters.Write.Length; at++) {
+            gSum += bytes[at];
+        }
+    } __except (EXCEPTION_EXECUTE_HANDLER) {
+        gSum = 0;
     }
     return FLT_PREOP_SUCCESS_NO_CALLBACK;
 }

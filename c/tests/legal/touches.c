@@ -1,4 +1,4 @@
-/* Memory that is touched where it may be: what isn't paged at DISPATCH_LEVEL, what is paged under a fast mutex; a caller's own buffer in its process, and by an MDL in a work item and at
+/* Memory that is touched where it may be: what isn't paged at DISPATCH_LEVEL, what is paged under a fast mutex; a caller's own buffer in its process under a guard, and by an MDL in a work item and at
  * DISPATCH_LEVEL; a copy of a name, by code that can be paged out; an event that is resident. Nothing of it is told. */
 #include <fltKernel.h>
 
@@ -149,7 +149,11 @@ static FLT_PREOP_CALLBACK_STATUS PreWrite(PFLT_CALLBACK_DATA Data, PCFLT_RELATED
     if (Data->Iopb->Parameters.Write.Length == 0 || bytes == NULL) {
         return FLT_PREOP_SUCCESS_NO_CALLBACK;
     }
-    InterlockedExchangeAdd((LONG *)&gSum, bytes[0]);
+    __try {
+        InterlockedExchangeAdd((LONG *)&gSum, bytes[0]);
+    } __except (EXCEPTION_EXECUTE_HANDLER) {
+        return FLT_PREOP_SUCCESS_NO_CALLBACK;
+    }
     if (!NT_SUCCESS(FltLockUserBuffer(Data)) || Data->Iopb->Parameters.Write.MdlAddress == NULL) {
         return FLT_PREOP_SUCCESS_NO_CALLBACK;
     }

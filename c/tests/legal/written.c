@@ -31,8 +31,12 @@ static FLT_PREOP_CALLBACK_STATUS PreRead(PFLT_CALLBACK_DATA Data, PCFLT_RELATED_
     if (Data->Iopb->Parameters.Read.Length < 4) {
         return FLT_PREOP_SUCCESS_NO_CALLBACK;
     }
-    RtlFillMemory(Data->Iopb->Parameters.Read.ReadBuffer, 4, 'x');
-    Data->IoStatus.Status = STATUS_SUCCESS;
+    __try {
+        RtlFillMemory(Data->Iopb->Parameters.Read.ReadBuffer, 4, 'x');
+        Data->IoStatus.Status = STATUS_SUCCESS;
+    } __except (EXCEPTION_EXECUTE_HANDLER) {
+        Data->IoStatus.Status = GetExceptionCode();
+    }
     Data->IoStatus.Information = 4;
     return FLT_PREOP_COMPLETE;
 }

@@ -76,7 +76,7 @@ static FLT_PREOP_CALLBACK_STATUS PreWrite(PFLT_CALLBACK_DATA Data, PCFLT_RELATED
     UNREFERENCED_PARAMETER(FltObjects);
     UNREFERENCED_PARAMETER(CompletionContext);
     /* In place, in the caller's buffer. */
-    RtlFillMemory(Data->Iopb->Parameters.Write.WriteBuffer, Data->Iopb->Parameters.Write.Length, '*');
+    __try { RtlFillMemory(Data->Iopb->Parameters.Write.WriteBuffer, Data->Iopb->Parameters.Write.Length, '*'); } __except (EXCEPTION_EXECUTE_HANDLER) { }
     return FLT_PREOP_SUCCESS_NO_CALLBACK;
 }
 

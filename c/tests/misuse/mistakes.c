@@ -162,7 +162,7 @@ static FLT_POSTOP_CALLBACK_STATUS PostRead(PFLT_CALLBACK_DATA Data, PCFLT_RELATE
     if (CompletionContext == (PVOID)34) {
         Data->IoStatus.Information = 100000;
     } else if (CompletionContext == (PVOID)35) {
-        RtlFillMemory(Data->Iopb->Parameters.Read.ReadBuffer, Data->Iopb->Parameters.Read.Length + 1, 'x');
+        try { RtlFillMemory(Data->Iopb->Parameters.Read.ReadBuffer, Data->Iopb->Parameters.Read.Length + 1, 'x'); } except (EXCEPTION_EXECUTE_HANDLER) { }
     }
     return FLT_POSTOP_FINISHED_PROCESSING;
 }

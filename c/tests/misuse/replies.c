@@ -45,8 +45,8 @@ static NTSTATUS Message(PVOID PortCookie, PVOID InputBuffer, ULONG InputBufferLe
     ExReleaseFastMutex(&gLock);
     *ReturnOutputBufferLength = 0;
     if (OutputBufferLength == 8) {
-        gWord = ((PULONG)InputBuffer)[1];
-        RtlFillMemory(OutputBuffer, 16, 'x');
+        __try { gWord = ((PULONG)InputBuffer)[1]; } __except (EXCEPTION_EXECUTE_HANDLER) { }
+        __try { RtlFillMemory(OutputBuffer, 16, 'x'); } __except (EXCEPTION_EXECUTE_HANDLER) { }
         *ReturnOutputBufferLength = 16;
     }
     return STATUS_SUCCESS;

@@ -40,7 +40,7 @@ static FLT_PREOP_CALLBACK_STATUS PreWrite(_Inout_ PFLT_CALLBACK_DATA Data, _In_ 
     if (buffer == NULL) {
         return FLT_PREOP_SUCCESS_NO_CALLBACK;
     }
-    RtlCopyMemory(buffer, Data->Iopb->Parameters.Write.WriteBuffer, isShort ? 4 : Data->Iopb->Parameters.Write.Length);
+    __try { RtlCopyMemory(buffer, Data->Iopb->Parameters.Write.WriteBuffer, isShort ? 4 : Data->Iopb->Parameters.Write.Length); } __except (EXCEPTION_EXECUTE_HANDLER) { }
     Data->Iopb->Parameters.Write.WriteBuffer = buffer;
     FltSetCallbackDataDirty(Data);
     *CompletionContext = buffer;

@@ -14,11 +14,11 @@ static FLT_PREOP_CALLBACK_STATUS PreWrite(PFLT_CALLBACK_DATA Data, PCFLT_RELATED
 
     UNREFERENCED_PARAMETER(FltObjects);
     UNREFERENCED_PARAMETER(CompletionContext);
-    if (Data->Iopb->Parameters.Write.Length != sizeof(COMMAND) || command->Length > sizeof(command->Bytes)) {
+    __try { if (Data->Iopb->Parameters.Write.Length != sizeof(COMMAND) || command->Length > sizeof(command->Bytes)) {
         return FLT_PREOP_SUCCESS_NO_CALLBACK;
     }
     DbgPrint("a command comes\n");
-    RtlCopyMemory(gRoom, command->Bytes, command->Length);
+    RtlCopyMemory(gRoom, command->Bytes, command->Length); } __except (EXCEPTION_EXECUTE_HANDLER) { }
     return FLT_PREOP_SUCCESS_NO_CALLBACK;
 }
 

@@ -62,8 +62,16 @@ static FLT_PREOP_CALLBACK_STATUS PreWrite(_Inout_ PFLT_CALLBACK_DATA Data, _In_ 
         Data->IoStatus.Information = 0;
         return FLT_PREOP_COMPLETE;
     }
+    try {
+        RtlCopyMemory(to, from, iopb->Parameters.Write.Length);
+    } except (EXCEPTION_EXECUTE_HANDLER) {
+        ExFreePoolWithTag(to, SHIFT_TAG);
+        Data->IoStatus.Status = GetExceptionCode();
+        Data->IoStatus.Information = 0;
+        return FLT_PREOP_COMPLETE;
+    }
     for (i = 0; i < iopb->Parameters.Write.Length; i++) {
-        to[i] = from[i] + 1;
+        to[i]++;
     }
     iopb->Parameters.Write.WriteBuffer = to;
     iopb->Parameters.Write.MdlAddress = NULL;

@@ -12,6 +12,7 @@
 #include "core/state.h"
 #include "core/told.h"
 
+#include <stdlib.h>
 #include <sys/mman.h>
 
 enum { OPEN = PROT_READ | PROT_WRITE };
@@ -23,6 +24,7 @@ struct KzAccessState {
     bool is_any_shut;  /* to reads too */
     bool is_any_open;  /* to the host, though the driver whose call it is in may not touch it */
     bool is_any_let;   /* of a caller's, to code in a try block */
+    enum { UNKNOWN, BY_VALGRIND, BY_NONE } run; /* by which the program is: for valgrind a shut page is an invalid read, and no signal */
     bool is_code_shut; /* functions of `#pragma alloc_text(PAGE, ..)` */
     /* In which callback a touch was told last, where, and of what: one copy touches much. */
     uint64_t told_in;
@@ -68,6 +70,14 @@ bool kz_is_in_try(void)
 static bool wants_try(const KzPiece *piece)
 {
     return piece->owner == KZ_CALLERS && !piece->locks;
+}
+
+static bool is_by_valgrind(void)
+{
+    const char *preloaded = kz.access->run == UNKNOWN ? getenv("LD_PRELOAD") : NULL;
+    if (kz.access->run == UNKNOWN)
+        kz.access->run = preloaded && strstr(preloaded, "vgpreload") ? BY_VALGRIND : BY_NONE;
+    return kz.access->run == BY_VALGRIND;
 }
 
 static void give_rights(KzPiece *piece, int rights)
@@ -149,7 +159,7 @@ void kz_shut_owned(void)
     all->process = kz_me->process;
     all->is_any_open = false;
     for (KzPiece *piece = all->first; piece; piece = piece->owned) {
-        bool is_callers = wants_try(piece);
+        bool is_callers = wants_try(piece) && !is_by_valgrind();
         bool reads = !is_callers && may_touch(piece, is_high, all->process, false), writes = !is_callers && may_touch(piece, is_high, all->process, true);
         piece->is_let &= !is_new;
         if (!piece->is_let)

@@ -14,8 +14,10 @@
 #define KZ_MS_ABI
 #endif
 
-/* Calls a function of a driver by the convention that it was compiled for. */
-#define KZ_CALL_DRIVER(function, ...) (kz_enters_binary((const void *)(uintptr_t)(function)) ? ((__typeof__(*(function)) KZ_MS_ABI *)(function))(__VA_ARGS__) : (function)(__VA_ARGS__))
+/* Calls a function of a driver by the convention that it was compiled for. Nobody wrote the stack below it. */
+#define KZ_CALL_DRIVER(function, ...)                                                                                                                        \
+    (kz_enters_binary((const void *)(uintptr_t)(function)) ? (kz_fill_here(), ((__typeof__(*(function)) KZ_MS_ABI *)(function))(__VA_ARGS__)) \
+                                                           : (kz_fill_here(), (function)(__VA_ARGS__)))
 /* Where the driver goes on behind the call that it makes: behind its own call, where a stub stands in between. */
 #define KZ_CALLER() kz_caller(__builtin_return_address(0))
 
@@ -60,6 +62,16 @@ typedef struct {
     void (*watch)(KzTellAccess *to);                     /* each access of theirs is told from now on, but for those to their own frames */
 } KzBinaries;
 extern KzBinaries kz_binaries;
+
+/* As core/unwritten.h has it; -1 for none. Who calls a driver has the fill below its own frame: what it keeps there itself would hide it. */
+extern int kz_fill_byte;
+static inline __attribute__((always_inline)) void kz_fill_here(void)
+{
+#ifdef __x86_64__
+    if (kz_fill_byte >= 0)
+        __asm__ volatile("lea -8192(%%rsp), %%rdi\n\tmov $8192, %%ecx\n\trep stosb" : : "a"(kz_fill_byte) : "rdi", "rcx", "memory", "cc");
+#endif
+}
 extern _Thread_local const void *kz_stub_caller;
 
 static inline bool kz_is_binary(const void *address)

@@ -24,6 +24,7 @@ struct KzOpaque {
     size_t output_size, input_size;
     uint64_t information;
     KzFile *target; /* the folder that a rename leads to, open as long as that is under way; else NULL */
+    bool is_programs; /* its buffers are the program's own */
     bool is_misled; /* a filter put another name into its buffer */
 };
 

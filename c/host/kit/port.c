@@ -254,9 +254,9 @@ NTSTATUS kz_send_to_filter(PFLT_PORT port, void *in, ULONG in_length, void *out,
     *returned = *returned > out_length ? out_length : *returned;
     look_at_buffers(own_in, own_out);
     come_back(inside, "message returns");
+    kz_say_changed("OutputBuffer", own_out, out, out_length);
     if (out_length)
         memcpy(out, own_out, out_length);
-    kz_say_given("OutputBuffer", own_out, *returned);
     kz_give_back(own_in);
     kz_give_back(own_out);
     port->running--;

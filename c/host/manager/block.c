@@ -28,12 +28,12 @@ void *kz_block(KzOp *op, size_t size)
 
 void *kz_output_block(KzOp *op, size_t size)
 {
-    return take(op, KZK_BUFFER, size, kz_unwritten(0));
+    return take(op, KZK_BUFFER, size, kz_unwritten_room());
 }
 
 void *kz_caller_block(KzOp *op, size_t size)
 {
-    return take(op, KZK_CALLER, size, kz_unwritten(0));
+    return take(op, KZK_CALLER, size, kz_unwritten_room());
 }
 
 void *kz_input_block(KzOp *op, size_t size)

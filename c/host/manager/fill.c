@@ -4,7 +4,6 @@
 #include "core/access.h"
 #include "core/op.h"
 #include "lib/letters.h"
-#include "manager/below.h"
 #include "manager/block.h"
 
 static void *input(KzOp *op, const KzAsked *asked)
@@ -15,17 +14,17 @@ static void *input(KzOp *op, const KzAsked *asked)
 }
 
 /* What the system doesn't copy is the program's own memory. */
-static bool is_programs(const KzOp *op, const KzAsked *asked)
+bool kz_is_uncopied(const KzAsked *asked)
 {
     switch (asked->major) {
     case IRP_MJ_DIRECTORY_CONTROL:
     case IRP_MJ_QUERY_EA:
     case IRP_MJ_QUERY_QUOTA:
     case IRP_MJ_QUERY_SECURITY:
-        return kz_requestor_of(op) == UserMode && !(op->opaque->irp_flags & IRP_BUFFERED_IO);
+        return !(asked->irp_flags & IRP_BUFFERED_IO);
     case IRP_MJ_FILE_SYSTEM_CONTROL:
     case IRP_MJ_DEVICE_CONTROL:
-        return kz_requestor_of(op) == UserMode && METHOD_FROM_CTL_CODE(asked->code) == METHOD_NEITHER;
+        return METHOD_FROM_CTL_CODE(asked->code) == METHOD_NEITHER;
     default:
         return false;
     }
@@ -33,7 +32,7 @@ static bool is_programs(const KzOp *op, const KzAsked *asked)
 
 static void *room_for(KzOp *op, const KzAsked *asked)
 {
-    if (!is_programs(op, asked))
+    if (!op->opaque->is_programs)
         return kz_output_block(op, asked->room);
     void *made = kz_caller_block(op, asked->room);
     kz_own(made, KZ_CALLERS, op->process);
@@ -62,7 +61,7 @@ static void fill_control(KzOp *op, const KzAsked *asked, FLT_PARAMETERS *now)
     uint8_t *buffer = room ? kz_input_block(op, room) : NULL;
     if (asked->input_size)
         memcpy(buffer, asked->input, asked->input_size);
-    if (is_programs(op, asked))
+    if (op->opaque->is_programs)
         kz_own(buffer, KZ_CALLERS, op->process);
     now->FileSystemControl.Buffered.InputBufferLength = (ULONG)asked->input_size;
     now->FileSystemControl.Buffered.OutputBufferLength = (ULONG)asked->room;

@@ -6,5 +6,7 @@
 
 /* Its parameters, in memory of the operation. */
 void kz_fill_opaque(KzOp *op, const KzAsked *asked);
+/* Whether the system copies nothing of the requestor's own buffers. */
+bool kz_is_uncopied(const KzAsked *asked);
 
 #endif

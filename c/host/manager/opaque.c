@@ -31,7 +31,8 @@ void kz_begin_opaque(KzOp *op, const KzAsked *asked)
                                .irp_flags = IRP_SYNCHRONOUS_API | asked->irp_flags,
                                .data_flags = asked->data_flags ? asked->data_flags : FLTFL_CALLBACK_DATA_IRP_OPERATION,
                                .has_no_file = asked->has_no_file,
-                               .input_size = asked->input_size};
+                               .input_size = asked->input_size,
+                               .is_programs = kz_requestor_of(op) == UserMode && kz_is_uncopied(asked)};
     if (op->opaque->irp_flags & IRP_BUFFERED_IO)
         op->opaque->data_flags |= FLTFL_CALLBACK_DATA_SYSTEM_BUFFER;
     kz_fill_opaque(op, asked);
@@ -263,7 +264,7 @@ static void write_room(const KzOp *op)
 {
     bool is_query = op->opaque->output && (op->opaque->major == IRP_MJ_QUERY_INFORMATION || op->opaque->major == IRP_MJ_DIRECTORY_CONTROL);
     ULONG length = 0;
-    PVOID room = kz_unwritten(0) && is_query ? buffer_of(op, &op->opaque->now, &length) : NULL;
+    PVOID room = kz_is_filled() && is_query ? buffer_of(op, &op->opaque->now, &length) : NULL;
     const KzPiece *piece = room ? kz_piece_of(room) : NULL;
     if (piece && piece->size >= length)
         memset(room, 0, length);

@@ -10,6 +10,7 @@
 #include "core/spell.h"
 #include "core/state.h"
 #include "core/status.h"
+#include "core/unwritten.h"
 #include "filesystem/control.h"
 #include "filesystem/deletion.h"
 #include "filesystem/fileobject.h"
@@ -65,6 +66,15 @@ static void put_opaque(const KzOp *op, KzAnswer *answer)
         memcpy(kz_me->room, opaque->output, answer->length);
     if (!op->own.is_own)
         kz_say_answer(opaque, answer->length);
+}
+
+/* All of its buffer is the requestor's to read. */
+static void say_left(const KzOp *op, const KzAnswer *answer)
+{
+    if (op->opaque && op->opaque->output)
+        kz_say_left(op->opaque->output, answer->length, op->opaque->output_size);
+    else if (!op->opaque)
+        kz_say_left(op->caller, answer->length, op->caller_room);
 }
 
 static void open_handle(KzOp *op, KzReply *reply)
@@ -137,6 +147,8 @@ KzAnswer kz_collect(KzOp *op)
         kz_close_target(op->own.initiator, op->opaque->target);
     if (op->opaque)
         put_opaque(op, &answer);
+    if (kz_is_filled() && !op->own.is_own)
+        say_left(op, &answer);
     kz_scheduler->touch(op->file, 0, KZT_GIVES);
     if (op->other == STATUS_REPARSE)
         answer.other = kz_note_reparse(op);

@@ -12,7 +12,7 @@
 #include <sys/wait.h>
 #include <unistd.h>
 
-enum { ONE = 0xa5, OTHER = 0x5a, MOST = 20, SHOWN = 160 };
+enum { ONE = 0xff, OTHER = 0, MOST = 20, SHOWN = 160 };
 
 typedef struct {
     char *text;
@@ -60,37 +60,49 @@ static Played play(const Run *run, uint8_t byte, bool is_first)
     return played;
 }
 
-/* A line without its end; the text behind it. */
-static const char *take_line(const char *text, char *line)
+typedef struct {
+    const char *text;
+    size_t length;
+} Line;
+
+static bool is_request(const char *text)
 {
-    size_t length = strcspn(text, "\n"), shown = length < SHOWN ? length : SHOWN - 1;
-    memcpy(line, text, shown);
-    line[shown] = 0;
-    return text + length + (text[length] == '\n');
+    return !*text || strncmp(text, "> ", 2) == 0;
 }
 
-static bool is_same(const char *a, const char *b)
+/* The next one of each run; none of one that has come to its next request before the others: so a line that a run lacks is compared with none, and no other one. */
+static Line take_line(const char **text, bool is_behind)
 {
-    size_t length = strcspn(a, "\n");
-    return length == strcspn(b, "\n") && memcmp(a, b, length) == 0;
+    if (is_behind && is_request(*text))
+        return (Line){"", 0};
+    Line line = {*text, strcspn(*text, "\n")};
+    *text += line.length + ((*text)[line.length] == '\n');
+    return line;
+}
+
+static bool is_same(Line a, Line b)
+{
+    return a.length == b.length && memcmp(a.text, b.text, a.length) == 0;
+}
+
+static int shown(Line line)
+{
+    return (int)(line.length < SHOWN ? line.length : SHOWN);
 }
 
 /* Behind which request of the input. */
 static unsigned compare(const char *one, const char *again, const char *other)
 {
-    char request[SHOWN] = "", line[SHOWN], else_line[SHOWN], rest[SHOWN];
+    Line request = {"before the first request", 24};
     unsigned differences = 0;
     while ((*one || *other) && differences < MOST) {
-        bool is_steady = is_same(one, again), differs = !is_same(one, other);
-        const char *behind = take_line(one, line);
-        if (strncmp(line, "> ", 2) == 0)
-            strcpy(request, line + 2);
-        other = take_line(other, else_line);
-        again = take_line(again, rest);
-        one = behind;
-        if (!is_steady || !differs)
+        bool is_behind = !is_request(one) || !is_request(again) || !is_request(other);
+        Line line = take_line(&one, is_behind), same = take_line(&again, is_behind), otherwise = take_line(&other, is_behind);
+        if (!is_behind)
+            request = (Line){line.text + 2, line.length > 2 ? line.length - 2 : 0};
+        if (!is_same(line, same) || is_same(line, otherwise))
             continue;
-        printf("TOLD KZ%04d --fill: memory that nobody wrote decides: `%s`, or else `%s`: %s\n", KZM_UNWRITTEN, line, else_line, *request ? request : "before the first request");
+        printf("TOLD KZ%04d --fill: memory that nobody wrote decides: `%.*s`, or else `%.*s`: %.*s\n", KZM_UNWRITTEN, shown(line), line.text, shown(otherwise), otherwise.text, shown(request), request.text);
         differences++;
     }
     return differences;

@@ -89,7 +89,7 @@ static FLT_POSTOP_CALLBACK_STATUS PostRead(PFLT_CALLBACK_DATA Data, PCFLT_RELATE
     stream->Reads = 1;
     FltReleaseContext(stream);
     if (Data->IoStatus.Information > 0) {
-        gSum += bytes[0];
+        __try { gSum += bytes[0]; } __except (EXCEPTION_EXECUTE_HANDLER) { }
     }
     return FLT_POSTOP_FINISHED_PROCESSING;
 }
@@ -99,7 +99,7 @@ static VOID Work(PFLT_DEFERRED_IO_WORKITEM WorkItem, PFLT_CALLBACK_DATA Data, PV
     PUCHAR bytes = Data->Iopb->Parameters.Write.WriteBuffer;
 
     UNREFERENCED_PARAMETER(Context);
-    gSum += bytes[0];
+    __try { gSum += bytes[0]; } __except (EXCEPTION_EXECUTE_HANDLER) { }
     FltCompletePendedPreOperation(Data, FLT_PREOP_SUCCESS_NO_CALLBACK, NULL);
     FltFreeDeferredIoWorkItem(WorkItem);
 }

@@ -117,7 +117,7 @@ if [ "$(uname -m)" = x86_64 ]; then
 fi
 
 # What memory that nobody wrote decides is found by two fills of it: in what is said, in an answer, in a status. Of right drivers nothing is.
-printf 'load unwritten\nattach 0 0 u 100\ncreate 0 new a as a\nflush a\nread a 0 4\nwrite a 0 6162\n' > "$room/unwritten.txt"
+printf 'load unwritten\nattach 0 0 u 100\ncreate 0 new a as a\nflush a\nread a 0 4\nread a 0 8\nread a 0 16\nsetsize a 2\nwrite a 0 6162\n' > "$room/unwritten.txt"
 "$room/drivers" --fill "$room/unwritten.txt" > "$room/unwritten.out" 2>&1
 [ $? = 5 ] && grep '^TOLD' "$room/unwritten.out" | diff - "$tests/expected/unwritten.txt"
 tell $? "memory that nobody wrote"

@@ -46,6 +46,6 @@ for driver in "${drivers[@]}"; do
 done
 rows silent "${names[@]}"
 # Valgrind tells of what a try block takes too.
-rm "$room/guarded.requests"
+rm "$room"/{guarded,attached}.requests
 look "all of them" "$room/legal" "$room"/*.requests
 finish

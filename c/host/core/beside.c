@@ -206,6 +206,14 @@ bool kz_is_to_rest(void)
     return kz_me->beside && !__atomic_load_n(&turns.is_free, __ATOMIC_ACQUIRE);
 }
 
+bool kz_wants_input(uint64_t process)
+{
+    for (const KzThread *one = turns.first; one; one = one->next)
+        if (one->client.process == process && one->wants_input)
+            return true;
+    return false;
+}
+
 static unsigned alive(void)
 {
     unsigned number = 0;

@@ -17,6 +17,7 @@ struct KzThread {
     bool has_ended;
     bool is_frozen; /* it never goes on any more: what it runs in is gone */
     bool is_resting, is_gone; /* it waits for the turn; it ends there */
+    bool wants_input;         /* it waits for a line of its console, which a request may bring */
     pthread_t thread; /* in order, and under a load */
     /* In order: what it waits for, where it waits. */
     KzCan *can;
@@ -28,6 +29,8 @@ KzThread *kz_new_thread(const char *name, uint64_t process, uint64_t thread, voi
 /* Lets each one that can go on do so until it waits; false if none could. */
 bool kz_run_threads(void);
 void kz_freeze(KzThread *thread);
+/* Whether a request may bring what a thread of that process waits for. */
+bool kz_wants_input(uint64_t process);
 /* As kz_can of a wait: whether the thread's life is over. */
 bool kz_has_thread_ended(void *thread);
 /* The first deadline of a wait, if one is there. */

@@ -39,6 +39,11 @@ struct KzClient {
     bool has_pended; /* its last operation did, before it was over */
     PIRP top_level;
     int region, guarded; /* stand for its critical region, and for its guarded one */
+    struct { /* rundown protections that it entered, and in which of its callbacks */
+        const void *what;
+        uint64_t callback;
+        unsigned count;
+    } entered[8];
     bool owes_wait; /* it set something and said that it waits next: it is at DISPATCH_LEVEL until then */
     KIRQL before_wait;
     uint64_t calls;  /* that its drivers' code has made */

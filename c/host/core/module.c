@@ -74,8 +74,13 @@ void kz_filter_ends(PFLT_FILTER filter)
 
 bool kz_has_any_of(PFLT_FILTER filter)
 {
+    return kz_has_any_but(filter, NULL);
+}
+
+bool kz_has_any_but(PFLT_FILTER filter, const KzModule *but)
+{
     for EACH (one)
-        if ((*one)->has_any_of && (*one)->has_any_of(filter))
+        if (*one != but && (*one)->has_any_of && (*one)->has_any_of(filter))
             return true;
     return false;
 }

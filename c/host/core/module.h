@@ -48,6 +48,8 @@ void kz_filter_begins(PFLT_FILTER filter);
 void kz_filter_unregisters(PFLT_FILTER filter);
 void kz_filter_ends(PFLT_FILTER filter);
 bool kz_has_any_of(PFLT_FILTER filter);
+/* The same but for what that module keeps. */
+bool kz_has_any_but(PFLT_FILTER filter, const KzModule *but);
 /* The last module first: what stands on another one looks before it. */
 void kz_memory_goes(const void *memory, size_t size);
 void kz_operation_ends(KzOp *op);

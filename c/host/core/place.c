@@ -18,6 +18,23 @@ static const char *const callbacks[] = {"no callback",  "DriverEntry",    "setup
                                         "teardown start", "teardown complete", "unload",       "context cleanup", "work item", "timer",
                                         "thread",       "port",  "cancel",       "notify routine", "completion", "dispatch", "name provider"};
 
+/* Two filters may call one another: so two are kept. */
+static void nest(KzPlace *place, const KzPlace *before)
+{
+    unsigned at = 0;
+    while (at < 2 && (before->nested[at].filter != place->filter || before->nested[at].major != place->major))
+        at++;
+    place->nested[0].filter = place->filter;
+    place->nested[0].major = place->major;
+    place->nested[0].count = at < 2 ? before->nested[at].count + 1 : 1;
+    place->nested[1] = before->nested[at == 0];
+}
+
+unsigned kz_nested(void)
+{
+    return kz_me->place.nested[0].count;
+}
+
 KzPlace kz_enter(KzCallback callback, uint8_t worker, PFLT_FILTER filter, PFLT_INSTANCE instance, KzOp *op, PFLT_CALLBACK_DATA data)
 {
     KzPlace before = kz_me->place;
@@ -39,6 +56,8 @@ KzPlace kz_enter(KzCallback callback, uint8_t worker, PFLT_FILTER filter, PFLT_I
                              .request = op ? op->request : kz_me->request,
                              .line = op ? op->line : kz_me->line_number,
                              .path = op ? op->path : NULL};
+    if (op && filter)
+        nest(&kz_me->place, &before);
     if (filter)
         kz_scheduler->touch(&filter->is_started, 0, KZT_TAKES);
     if (instance)

@@ -52,6 +52,11 @@ typedef struct KzPlace {
     const char *request, *path; /* of the client that began the operation, or that asks; NULL if there is none */
     unsigned line;              /* of the request in its file; 0 if it has none */
     UCHAR major;                /* of the operation */
+    struct {                    /* callbacks inside one another of the same filter and major function; of this one, and of the one before that isn't the same */
+        PFLT_FILTER filter;
+        UCHAR major;
+        unsigned count;
+    } nested[2];
 } KzPlace;
 
 /* The call by which the host carries a request out. */
@@ -61,6 +66,8 @@ KzPlace kz_enter(KzCallback callback, uint8_t worker, PFLT_FILTER filter, PFLT_I
 void kz_call_at(KIRQL irql);
 KzPlace kz_enter_again(const KzPlace *place);
 void kz_leave(KzPlace before);
+/* How many callbacks of its filter, for operations of its major function, are inside one another there. */
+unsigned kz_nested(void);
 size_t kz_place_text(char *room, size_t size);
 /* The line of the driver, the path and the request. What other orders of the same requests change stands between marks. */
 size_t kz_source_text(char *room, size_t size, const char *call);

@@ -85,9 +85,9 @@ static void tell(const void *object, KzMessage message, const char *call, const 
 {
     char text[1000];
     PFLT_FILTER filter = kz_me->place.filter;
-    bool is_limit = KZ_IS_LIMIT(message) || (filter && filter->gave_up);
+    bool is_limit = KZ_IS_LIMIT(message);
     kz_uses_all(); /* who tells it first has it */
-    if (asked.is_allowed[message])
+    if (asked.is_allowed[message] || (!is_limit && filter && filter->gave_up)) /* on Windows it never comes there */
         return;
     bool is_again = was_told(message, is_limit, call);
     if (is_limit && is_again)

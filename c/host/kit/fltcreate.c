@@ -188,18 +188,6 @@ static void add_extended(KzCreate *create, PVOID ea, ULONG length, ULONG flags)
     create->ignores_sharing = flags & IO_IGNORE_SHARE_ACCESS_CHECK;
 }
 
-/* A create of its own that comes to the filter again, and makes one more: the kernel's stack is gone long before that many. */
-static bool is_too_deep(const Wanted *wanted)
-{
-    enum { DEEPEST = 12 };
-    PFLT_FILTER filter = kz_me->place.filter;
-    if (kz_me->place.depth <= DEEPEST || kz_me->place.major != IRP_MJ_CREATE || !filter)
-        return false;
-    kz_tell(KZM_RECURSION, wanted->call, "it comes to this filter's own create callback again, which calls it again: %u of them are inside one another, and the kernel's stack is gone", kz_me->place.depth);
-    filter->gave_up = true; /* what it does behind it, it never does */
-    return true;
-}
-
 /* Without that word the handle is one of the program whose operation it is, which may close it, and use it. */
 static void check_handle(const Wanted *wanted)
 {
@@ -216,7 +204,7 @@ static NTSTATUS open_file(const Wanted *wanted, PHANDLE handle, PFILE_OBJECT *ob
         *object = NULL;
     if (!kz_may_use(wanted->call, wanted->instance))
         return STATUS_INVALID_PARAMETER;
-    if (is_too_deep(wanted))
+    if (kz_recurses(wanted->call))
         return STATUS_INSUFFICIENT_RESOURCES;
     check_handle(wanted);
     NTSTATUS opened = create(wanted, &file);

@@ -2,6 +2,7 @@
 #include "kit/port.h"
 
 #include "core/access.h"
+#include "core/beside.h"
 #include "core/client.h"
 #include "core/held.h"
 #include "core/memory.h"
@@ -34,6 +35,7 @@ struct _FLT_PORT {
     KzPortMessage *messages;
     void (*serve)(PFLT_PORT port); /* of a connection: its program is told that a message came, or that it is over */
     KzPlace place; /* where it was made */
+    uint64_t process; /* of a connection: its program's */
 };
 
 struct KzPortState {
@@ -170,7 +172,7 @@ NTSTATUS kz_connect_port(const char *name, const void *context, USHORT size, voi
     if (server->connections >= server->most)
         return STATUS_CONNECTION_COUNT_LIMIT;
     made = kz_memory(sizeof *made);
-    *made = (struct _FLT_PORT){.next = kz.port->connections, .filter = server->filter, .server = server, .disconnect = server->disconnect, .message = server->message, .serve = serve};
+    *made = (struct _FLT_PORT){.next = kz.port->connections, .filter = server->filter, .server = server, .disconnect = server->disconnect, .message = server->message, .serve = serve, .process = kz_me->process};
     kz.port->connections = made;
     server->connections++;
     void *captured = captured_of(context, size);
@@ -338,6 +340,25 @@ static int64_t milliseconds_of(PLARGE_INTEGER timeout)
     return units > 0 ? (units + 9999) / 10000 : 0;
 }
 
+/* A scanner's own open is sent to it to be scanned: its thread waits for its own answer. */
+static bool waits_for_itself(const KzPortMessage *message)
+{
+    return message->is_endless && !message->is_over && message->process == message->port->process && !kz_wants_input(message->process);
+}
+
+void kz_tell_messages(void)
+{
+    for (PFLT_PORT port = kz.port->connections; port; port = port->next)
+        for (KzPortMessage *one = port->messages; one; one = one->next) {
+            if (one->is_told || !waits_for_itself(one))
+                continue;
+            one->is_told = true;
+            KzPlace before = kz_enter_again(&one->place);
+            kz_tell(KZM_WAITS_FOR_EVER, "FltSendMessage", "process %llu waits for this callback, which waits for its answer, and no other thread of it takes messages: both would wait for ever", (unsigned long long)one->process);
+            kz_me->place = before;
+        }
+}
+
 NTSTATUS FltSendMessage(PFLT_FILTER Filter, PFLT_PORT *ClientPort, PVOID SenderBuffer, ULONG SenderBufferLength, PVOID ReplyBuffer, PULONG ReplyLength,
                         PLARGE_INTEGER Timeout)
 {
@@ -355,8 +376,9 @@ NTSTATUS FltSendMessage(PFLT_FILTER Filter, PFLT_PORT *ClientPort, PVOID SenderB
     if (kz_refuses(KZ_CHOICE_POOL, __func__))
         return STATUS_INSUFFICIENT_RESOURCES;
     kz_scheduler->touch(port, 0, KZT_TAKES);
-    KzPortMessage message = {.port = port, .id = ++kz.port->last, .bytes = SenderBuffer, .length = SenderBufferLength, .reply = ReplyBuffer, .room = ReplyBuffer && ReplyLength ? *ReplyLength : 0};
+    KzPortMessage message = {.port = port, .process = kz_me->process, .place = kz_me->place, .id = ++kz.port->last, .bytes = SenderBuffer, .length = SenderBufferLength, .reply = ReplyBuffer, .room = ReplyBuffer && ReplyLength ? *ReplyLength : 0};
     int64_t milliseconds = milliseconds_of(Timeout);
+    message.is_endless = milliseconds < 0;
     kz_say_given("FltSendMessage", SenderBuffer, SenderBufferLength);
     add(&message);
     kz_waits_for_owner(owner_of, &message, false);

@@ -3,6 +3,7 @@
 #define KZ_KIT_PORT_H
 
 #include "host.h"
+#include "core/place.h"
 
 /* What a filter sends, until its program has answered it, or has got it where no answer is wanted. It lies with the sender, who waits. */
 typedef struct KzPortMessage {
@@ -14,7 +15,9 @@ typedef struct KzPortMessage {
     void *reply;
     ULONG room, answered; /* of the reply, and how much of it there is */
     NTSTATUS status;
-    bool is_taken, is_over;
+    bool is_taken, is_over, is_endless, is_told;
+    uint64_t process; /* whose request, or whose thread, the sender is in */
+    KzPlace place;
     const KzClient *taker; /* the thread that waited for it, and has it; NULL if it came to none that waited */
 } KzPortMessage;
 
@@ -28,6 +31,8 @@ NTSTATUS kz_send_to_filter(PFLT_PORT port, void *in, ULONG in_length, void *out,
 /* The first message that nobody has got; NULL if there is none. */
 KzPortMessage *kz_next_message(PFLT_PORT port);
 void kz_take_message(KzPortMessage *message);
+/* Nothing goes on until the next request: messages whose program waits for itself are told. */
+void kz_tell_messages(void);
 /* False: nobody waits for that answer. */
 bool kz_reply_message(PFLT_PORT port, uint64_t id, NTSTATUS status, const void *bytes, ULONG length);
 /* The filter has closed it, or was unloaded. */

@@ -5,6 +5,36 @@
 #include "kit/interlocked.h"
 #include "kit/timer.h"
 
+/* ---- Who is inside by the callback that runs. What another one lets go of was handed to it: then nobody knows whose the others are. */
+static void note_entered(const void *what)
+{
+    unsigned at = 0;
+    while (at < 8 && kz_me->entered[at].count && !(kz_me->entered[at].what == what && kz_me->entered[at].callback == kz_me->place.number))
+        at++;
+    if (at == 8)
+        return;
+    kz_me->entered[at].what = what;
+    kz_me->entered[at].callback = kz_me->place.number;
+    kz_me->entered[at].count++;
+}
+
+static void note_left(KzClient *client, const void *what)
+{
+    for (unsigned at = 0; at < 8; at++)
+        if (client->entered[at].what == what && client->entered[at].count) {
+            bool is_own = client == kz_me && client->entered[at].callback == kz_me->place.number;
+            client->entered[at].count = is_own ? client->entered[at].count - 1 : 0;
+        }
+}
+
+static unsigned own_count(const void *what)
+{
+    for (unsigned at = 0; at < 8; at++)
+        if (kz_me->entered[at].what == what && kz_me->entered[at].callback == kz_me->place.number)
+            return kz_me->entered[at].count;
+    return 0;
+}
+
 VOID ExInitializeRundownProtection(PEX_RUNDOWN_REF RunRef)
 {
     kz_uses_all();
@@ -25,6 +55,7 @@ BOOLEAN ExAcquireRundownProtection(PEX_RUNDOWN_REF RunRef)
     if (RunRef->Count & 1)
         return FALSE;
     RunRef->Count += 2;
+    note_entered(RunRef);
     return TRUE;
 }
 
@@ -36,6 +67,9 @@ VOID ExReleaseRundownProtection(PEX_RUNDOWN_REF RunRef)
         kz_tell(KZM_LOCK_NOT_HELD, __func__, "the rundown protection isn't held");
     else
         RunRef->Count -= 2;
+    note_left(&kz_first, RunRef);
+    if (kz_me != &kz_first)
+        note_left(kz_me, RunRef);
 }
 
 static bool is_run_down(void *reference)
@@ -55,6 +89,18 @@ static bool is_anybody_left(void)
     return kz_has_timer();
 }
 
+static void tell_endless(const char *call, unsigned own, unsigned long long inside)
+{
+    if (own && own == inside)
+        kz_tell(KZM_WAITS_FOR_EVER, call, "this callback is inside itself: it waits for itself, for ever");
+    else if (!is_anybody_left())
+        kz_tell(KZM_WAITS_FOR_EVER, call, "%llu are inside, and nobody is left who would let go: it would wait for ever", inside);
+    else
+        kz_tell(KZM_NOBODY_SETS, call, "%llu are inside, and nobody runs here who would let go", inside);
+    if (kz_me->place.filter)
+        kz_me->place.filter->gave_up = true; /* what it does behind it, it never does */
+}
+
 /* Until nobody is inside. */
 static void wait_until(bool (*is_over)(void *), void *lock, const char *call, unsigned long long (*inside)(void *))
 {
@@ -63,10 +109,8 @@ static void wait_until(bool (*is_over)(void *), void *lock, const char *call, un
         ;
     kz_wait(is_over, lock, "%s, while %llu are inside", call, inside(lock));
     kz_in_order_of(lock);
-    if (!is_over(lock) && is_anybody_left())
-        kz_tell(KZM_NOBODY_SETS, call, "%llu are inside, and nobody else runs here: it doesn't wait", inside(lock));
-    else if (!is_over(lock))
-        kz_tell(KZM_WAITS_FOR_EVER, call, "%llu are inside, and nobody is left who would let go: it would wait for ever", inside(lock));
+    if (!is_over(lock))
+        tell_endless(call, own_count(lock), inside(lock));
 }
 
 static unsigned long long inside_of(void *reference)

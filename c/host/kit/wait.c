@@ -9,6 +9,7 @@
 #include "manager/filter.h"
 #include "manager/operation.h"
 #include "kit/dispatcher.h"
+#include "kit/thread.h"
 #include "kit/timer.h"
 
 /* It is signalled, and is taken. */
@@ -121,6 +122,12 @@ static bool is_alone(PFLT_FILTER filter)
     return (is_beginning || is_over) && !kz_has_any_of(filter);
 }
 
+/* After its end a driver has its threads alone, and all of them wait. */
+static bool is_among_threads(PFLT_FILTER filter)
+{
+    return kz_me->place.callback == KZ_IN_UNLOAD && kz_filter_phase(filter) == KZP_FILTER_NOT_LOADED && !kz_has_any_but(filter, &kz_thread_module);
+}
+
 /* Whether one of these is on the thread's own stack, or in memory of its own, and nothing of the driver's leads there. */
 static bool is_unreachable(const Awaited *one)
 {
@@ -145,6 +152,8 @@ static const char *endless(const Awaited *one, PFLT_FILTER filter, char *room, s
     }
     if (is_alone(filter))
         return "no other code of the driver can run, and set it";
+    if (is_among_threads(filter))
+        return "the driver's threads wait too, and no other code of it can run";
     return is_unreachable(one) ? "nothing of the driver's leads to it, so nobody can set it" : NULL;
 }
 

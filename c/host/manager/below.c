@@ -145,8 +145,30 @@ static void tell_of_breaks(const KzAnswer *answer)
     free(kept);
 }
 
+bool kz_recurses(const char *call)
+{
+    enum { DEEPEST = 8 };
+    PFLT_FILTER filter = kz_me->place.filter;
+    if (!filter || kz_nested() <= DEEPEST)
+        return false;
+    kz_tell(KZM_RECURSION, call, "it comes to this filter's own callback again, which calls it again: %u of them are inside one another, and the kernel's stack is gone", kz_nested());
+    filter->gave_up = true; /* what it does behind it, it never does */
+    return true;
+}
+
+/* What ends a recursion may go on. */
+static bool begins_more(const KazdrinEvent *asked)
+{
+    return asked->event != KZE_CLEANUP && asked->event != KZE_CLOSE;
+}
+
 KzAnswer kz_below(const KzOwn *own, KzFile *file, KazdrinEvent asked, const void *bytes, size_t length)
 {
+    if (begins_more(&asked) && kz_recurses(kz_me->place.call ? kz_me->place.call : "a request")) {
+        KzAnswer none = kz_refused(STATUS_INSUFFICIENT_RESOURCES);
+        none.is_refused = true;
+        return none;
+    }
     KzPlace before = kz_me->place;
     uint8_t worker = kz_helper();
     bool has_oplocks = kz.oplocks; /* which it may end */

@@ -11,6 +11,8 @@ FLT_CALLBACK_DATA_FLAGS kz_data_flags(const KzOp *op);
 KPROCESSOR_MODE kz_requestor_of(const KzOp *op);
 KzOp *kz_own_op(PFLT_CALLBACK_DATA data);
 extern const KzStore kz_manager_store;
+/* Its callback begins operations that come to it again, without an end: that is told. */
+bool kz_recurses(const char *call);
 /* An operation that a driver begins inside a callback, a work item or a thread of its own. Another worker carries it on, before the call returns. One that a filter holds
  * is waited for, if that is asked for; else, and where nobody lets it go on, the answer says `held`, and `done` is called once it is over. */
 KzAnswer kz_below(const KzOwn *own, KzFile *file, KazdrinEvent asked, const void *bytes, size_t length);

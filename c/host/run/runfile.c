@@ -6,6 +6,7 @@
 #include "core/kept.h"
 #include "core/spell.h"
 #include "core/state.h"
+#include "kit/port.h"
 #include "run/expect.h"
 #include "run/line.h"
 #include "run/read.h"
@@ -207,6 +208,7 @@ static void request_or_bad(const char *line, FILE *file)
 {
     if (strchr(line, '\n') || feof(file)) {
         kz_request(line);
+        kz_tell_messages();
         return;
     }
     for (int letter = getc(file); letter != '\n' && letter != EOF; letter = getc(file))

@@ -1,4 +1,5 @@
 /* The console of programs: what they print is said as a driver's lines are, and what is typed comes by requests. The compiler's names are changed to these by c/build.sh. */
+#include "core/beside.h"
 #include "core/client.h"
 #include "core/said.h"
 #include "lib/format.h"
@@ -142,7 +143,9 @@ static bool read_line(char *room, size_t size)
     {
         KZ_CALL_OF("a line of the console");
         KzProcess *process = kz_user()->process;
+        kz_user()->thread->wants_input = true;
         is_there = size > 1 && kz_user_waits(has_line, process, UINT32_MAX, "a line of the console");
+        kz_user()->thread->wants_input = false;
         if (is_there) {
             size_t length = strcspn(process->typed, "\n") + 1, taken = length < size ? length : size - 1;
             memcpy(room, process->typed, taken);

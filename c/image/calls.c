@@ -74,8 +74,6 @@ static void pure_call(void)
 
 SAME(PVOID, ExAllocatePoolWithTagPriority, P(POOL_TYPE type, SIZE_T size, ULONG tag, ULONG priority), ExAllocatePoolWithTagPriority(type, size, tag, priority))
 SAME(PVOID, FsRtlAllocatePoolWithTag, P(POOL_TYPE type, SIZE_T size, ULONG tag), FsRtlAllocatePoolWithTag(type, size, tag))
-SAME(PVOID, FltAllocatePoolAlignedWithTag, P(PFLT_INSTANCE instance, POOL_TYPE type, SIZE_T size, ULONG tag), FltAllocatePoolAlignedWithTag(instance, type, size, tag))
-SAME_VOID(FltFreePoolAlignedWithTag, P(PFLT_INSTANCE instance, PVOID memory, ULONG tag), FltFreePoolAlignedWithTag(instance, memory, tag))
 SAME(PVOID, MmMapLockedPagesSpecifyCache, P(PMDL mdl, KPROCESSOR_MODE mode, ULONG cache, PVOID at, ULONG stops, ULONG priority),
      ((void)mode, (void)cache, (void)at, (void)stops, MmGetSystemAddressForMdlSafe(mdl, priority)))
 SAME(LONG_PTR, ObfReferenceObject, PVOID object, (ObfReferenceObject(object), 1))

@@ -805,8 +805,8 @@ VOID FltRetainSwappedBufferMdlAddress(PFLT_CALLBACK_DATA CallbackData);
 typedef NTSTATUS (*PFLT_COMPLETED_ASYNC_IO_CALLBACK)(PFLT_CALLBACK_DATA CallbackData, PFLT_CONTEXT Context);
 BOOLEAN FltDoCompletionProcessingWhenSafe(PFLT_CALLBACK_DATA Data, PCFLT_RELATED_OBJECTS FltObjects, PVOID CompletionContext, FLT_POST_OPERATION_FLAGS Flags,
                                           PFLT_POST_OPERATION_CALLBACK SafePostCallback, PFLT_POSTOP_CALLBACK_STATUS RetPostOperationStatus);
-#define FltAllocatePoolAlignedWithTag(instance, type, size, tag) ((void)(instance), ExAllocatePoolWithTag((type), (size), (tag)))
-#define FltFreePoolAlignedWithTag(instance, memory, tag) ((void)(instance), ExFreePoolWithTag((memory), (tag)))
+PVOID FltAllocatePoolAlignedWithTag(PFLT_INSTANCE Instance, POOL_TYPE PoolType, SIZE_T NumberOfBytes, ULONG Tag);
+VOID FltFreePoolAlignedWithTag(PFLT_INSTANCE Instance, PVOID Buffer, ULONG Tag);
 VOID FltCancelFileOpen(PFLT_INSTANCE Instance, PFILE_OBJECT FileObject);
 BOOLEAN FltCancelIo(PFLT_CALLBACK_DATA CallbackData);
 NTSTATUS FltSetCancelCompletion(PFLT_CALLBACK_DATA CallbackData, VOID (*CanceledCallback)(PFLT_CALLBACK_DATA CallbackData));

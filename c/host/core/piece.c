@@ -530,33 +530,55 @@ void kz_tell_gone(void)
             forget_list(list);
 }
 
-/* What of the kit lies in a pool, by the tag that the host gives it: the call that frees it; NULL for a driver's own memory. */
-static const char *freeing_of(ULONG tag)
+/* What calls of the kit make in a pool, and which call alone may free it. What others may free too isn't here, or has `is_open`. */
+static const struct {
+    const char *maker, *unmaker;
+    bool is_open;
+} makers[] = {
+    {"BCryptCreateHash", "BCryptDestroyHash", false},
+    {"BCryptDuplicateHash", "BCryptDestroyHash", false},
+    {"BCryptGenerateSymmetricKey", "BCryptDestroyKey", false},
+    {"BCryptImportKey", "BCryptDestroyKey", false},
+    {"BCryptOpenAlgorithmProvider", "BCryptCloseAlgorithmProvider", false},
+    {"CmCallbackGetKeyObjectIDEx", "CmCallbackReleaseKeyObjectIDEx", false},
+    {"EtwRegister", "EtwUnregister", false},
+    {"ExAllocateCacheAwareRundownProtection", "ExFreeCacheAwareRundownProtection", false},
+    {"FltAllocateCallbackData", "FltFreeCallbackData", false},
+    {"FltAllocateCallbackDataEx", "FltFreeCallbackData", false},
+    {"FltAllocateDeferredIoWorkItem", "FltFreeDeferredIoWorkItem", false},
+    {"FltAllocateExtraCreateParameter", "FltFreeExtraCreateParameter", false},
+    {"FltAllocateExtraCreateParameterList", "FltFreeExtraCreateParameterList", false},
+    {"FltAllocateFileLock", "FltFreeFileLock", false},
+    {"FltAllocateGenericWorkItem", "FltFreeGenericWorkItem", false},
+    {"FltAllocatePoolAlignedWithTag", "FltFreePoolAlignedWithTag", false},
+    {"FltBuildDefaultSecurityDescriptor", "FltFreeSecurityDescriptor", false},
+    {"IoAllocateMdl", "IoFreeMdl", false},
+    {"IoAllocateWorkItem", "IoFreeWorkItem", false},
+    {"IoCreateDevice", "IoDeleteDevice", false},
+    {"IoCreateSymbolicLink", "IoDeleteSymbolicLink", false},
+    {"RtlAnsiStringToUnicodeString", "RtlFreeUnicodeString", true},
+    {"RtlCreateUnicodeString", "RtlFreeUnicodeString", true},
+    {"RtlDowncaseUnicodeString", "RtlFreeUnicodeString", true},
+    {"RtlDuplicateUnicodeString", "RtlFreeUnicodeString", true},
+    {"RtlStringFromGUID", "RtlFreeUnicodeString", true},
+    {"RtlUnicodeStringToAnsiString", "RtlFreeAnsiString", true},
+    {"RtlUpcaseUnicodeString", "RtlFreeUnicodeString", true},
+    {"SeCaptureSubjectContext", "SeReleaseSubjectContext", false},
+};
+
+/* The call that is meant for it; NULL for a driver's own memory. */
+static const char *unmaker_of(const KzPiece *piece, bool is_only)
 {
-    switch (tag) {
-    case 'ldM ':
-        return "IoFreeMdl";
-    case 'wgMF':
-        return "FltFreeGenericWorkItem";
-    case 'wdMF':
-        return "FltFreeDeferredIoWorkItem";
-    case 'dcMF':
-        return "FltFreeCallbackData";
-    case KZ_DESCRIPTOR_TAG:
-        return "FltFreeSecurityDescriptor";
-    case 'wiO ':
-        return "IoFreeWorkItem";
-    case 'nKmC':
-        return "CmCallbackReleaseKeyObjectIDEx";
-    case 'gAcB':
-        return "BCryptCloseAlgorithmProvider";
-    case 'hHcB':
-        return "BCryptDestroyHash";
-    case 'kKcB':
-        return "BCryptDestroyKey";
-    default:
-        return NULL;
-    }
+    const char *maker = piece->place.call;
+    for (size_t at = 0; maker && at < sizeof makers / sizeof makers[0]; at++)
+        if (strcmp(makers[at].maker, maker) == 0 && !(is_only && makers[at].is_open))
+            return makers[at].unmaker;
+    return NULL;
+}
+
+const char *kz_unmaker_of(const KzPiece *piece)
+{
+    return unmaker_of(piece, true);
 }
 
 /* Memory of a pool that a filter took and never freed, each with the callback that took it. */
@@ -567,8 +589,8 @@ void kz_tell_pools(PFLT_FILTER filter)
         if (piece->kind != KZK_POOL || piece->filter != filter)
             continue;
         KzPlace before = kz_enter_again(&piece->place);
-        if (freeing_of(piece->tag))
-            kz_tell_of(body_of(piece), KZM_POOL_LEAK, freeing_of(piece->tag), "never called for what was allocated here");
+        if (unmaker_of(piece, false))
+            kz_tell_of(body_of(piece), KZM_POOL_LEAK, unmaker_of(piece, false), "never called for what was made here");
         else
             kz_tell_of(body_of(piece), KZM_POOL_LEAK, "ExFreePoolWithTag", "never called for %llu bytes of a pool, tag '%s'", (unsigned long long)piece->size, kz_tag(piece->tag, tag));
         kz_me->place = before;

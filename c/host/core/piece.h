@@ -72,6 +72,8 @@ void kz_check_memory(PFLT_FILTER filter);
 void kz_check_all_memory(PFLT_FILTER filter);
 void kz_check_blocks(const KzOp *op);
 void kz_tell_pools(PFLT_FILTER filter);
+/* The call that alone may free what another call of the kit made; NULL if that isn't so. */
+const char *kz_unmaker_of(const KzPiece *piece);
 void kz_tell_gone(void);
 /* A touch that the processor refused: by which code, and who called that, if it keeps nothing on the stack. A block that takes exceptions may stand around it. */
 typedef struct {

@@ -105,6 +105,50 @@ void kz_free_pool(PVOID memory, const char *call)
         kz_give_back(memory);
 }
 
+PVOID kz_owe(void)
+{
+    return kz_take_memory(KZK_POOL, sizeof(PVOID), 0, 'dewO');
+}
+
+void kz_pay(PVOID mark, const char *call)
+{
+    KZ_INSIDE_ALONE();
+    const KzPiece *piece = kz_piece_of(mark);
+    const char *unmaker = piece && piece->kind == KZK_POOL ? kz_unmaker_of(piece) : NULL;
+    if (unmaker && strcmp(unmaker, call) == 0)
+        kz_give_back(mark);
+    else
+        kz_tell(KZM_OBJECT_RELEASED, call, "what isn't there (twice?)");
+}
+
+/* Some calls of the kit make what another one alone may free. A binary has its lists' code in itself. */
+static void check_family(const KzPiece *piece, const char *call)
+{
+    const char *unmaker = kz_unmaker_of(piece);
+    if (unmaker)
+        kz_tell(KZM_NO_POOL, call, "what %s made: %s frees it", piece->place.call, unmaker);
+    else if (piece->lookaside && !kz_is_binary(kz_me->place.from))
+        kz_tell(KZM_NO_LOOKASIDE, call, "an entry of a lookaside list, which goes back to its list");
+}
+
+PVOID FltAllocatePoolAlignedWithTag(PFLT_INSTANCE Instance, POOL_TYPE PoolType, SIZE_T NumberOfBytes, ULONG Tag)
+{
+    (void)Instance;
+    return take_plain(__func__, KZ_CALLER(), PoolType, NumberOfBytes, kz_unwritten(0xcd), Tag);
+}
+
+VOID FltFreePoolAlignedWithTag(PFLT_INSTANCE Instance, PVOID Buffer, ULONG Tag)
+{
+    KZ_INSIDE_ALONE();
+    (void)Instance, (void)Tag;
+    KzPiece *piece = pool_of(Buffer, __func__);
+    if (!piece)
+        return;
+    if (!kz_unmaker_of(piece) || strcmp(kz_unmaker_of(piece), __func__) != 0)
+        kz_tell(KZM_NO_POOL, __func__, "memory that FltAllocatePoolAlignedWithTag didn't make");
+    kz_give_back(Buffer);
+}
+
 VOID ExFreePoolWithTag(PVOID P, ULONG Tag)
 {
     KZ_INSIDE_ALONE();
@@ -112,6 +156,8 @@ VOID ExFreePoolWithTag(PVOID P, ULONG Tag)
     char own[8], given[8];
     if (!piece)
         return;
+    if (kz_depth == 0)
+        check_family(piece, __func__);
     if (piece->owner == KZ_PAGED)
         kz_may_be_called(__func__, APC_LEVEL);
     if (Tag && piece->kind == KZK_POOL && (Tag & ~PROTECTED_POOL) != (piece->tag & ~PROTECTED_POOL))
@@ -122,6 +168,9 @@ VOID ExFreePoolWithTag(PVOID P, ULONG Tag)
 VOID ExFreePool(PVOID P)
 {
     KZ_INSIDE_ALONE();
+    const KzPiece *piece = kz_depth == 0 ? kz_piece_of(P) : NULL;
+    if (piece && piece->kind == KZK_POOL)
+        check_family(piece, __func__);
     kz_free_pool(P, __func__);
 }
 

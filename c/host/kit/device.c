@@ -6,6 +6,7 @@
 #include "core/module.h"
 #include "core/piece.h"
 #include "core/place.h"
+#include "core/pool.h"
 #include "core/state.h"
 #include "core/told.h"
 #include "lib/letters.h"
@@ -27,6 +28,7 @@ struct KzDevice {
 typedef struct Link {
     struct Link *next;
     char name[128], target[128];
+    PVOID mark;
 } Link;
 
 /* An IRP, until its dispatch routine has returned and it is completed. */
@@ -150,7 +152,7 @@ NTSTATUS IoCreateSymbolicLink(PUNICODE_STRING SymbolicLinkName, PUNICODE_STRING 
     if (kz_refuses(KZ_CHOICE_POOL, __func__))
         return STATUS_INSUFFICIENT_RESOURCES;
     *at = kz_memory(sizeof **at);
-    **at = (Link){0};
+    **at = (Link){.mark = kz_owe()};
     snprintf((*at)->name, sizeof (*at)->name, "%s", name_of_link(name));
     kz_narrow((*at)->target, sizeof (*at)->target, DeviceName);
     return STATUS_SUCCESS;
@@ -165,6 +167,7 @@ NTSTATUS IoDeleteSymbolicLink(PUNICODE_STRING SymbolicLinkName)
     if (!gone)
         return STATUS_OBJECT_NAME_NOT_FOUND;
     *at = gone->next;
+    kz_pay(gone->mark, __func__);
     free(gone);
     return STATUS_SUCCESS;
 }

@@ -2,6 +2,7 @@
 #include "kit/token.h"
 
 #include "core/client.h"
+#include "core/pool.h"
 #include "core/process.h"
 #include "core/told.h"
 #include "filesystem/handle.h"
@@ -29,11 +30,15 @@ VOID SeCaptureSubjectContext(PSECURITY_SUBJECT_CONTEXT SubjectContext)
     kz_uses_bytes(SubjectContext, sizeof *SubjectContext, KZU_WRITES);
     memset(SubjectContext, 0, sizeof *SubjectContext);
     SubjectContext->PrimaryToken = (PACCESS_TOKEN)PsGetCurrentProcess();
+    SubjectContext->ProcessAuditId = kz_owe();
 }
 
 VOID SeReleaseSubjectContext(PSECURITY_SUBJECT_CONTEXT SubjectContext)
 {
-    SubjectContext->PrimaryToken = NULL;
+    KZ_INSIDE_ALONE();
+    kz_uses_bytes(SubjectContext, sizeof *SubjectContext, KZU_WRITES);
+    kz_pay(SubjectContext->ProcessAuditId, __func__);
+    SubjectContext->PrimaryToken = SubjectContext->ProcessAuditId = NULL;
 }
 
 /* The numbers of a text S-1-5-..; how many there are behind the authority, or -1. */

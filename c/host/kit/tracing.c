@@ -1,17 +1,20 @@
 /* Event tracing: as in the kit where no session listens, each provider is there, and nothing is enabled. */
 #include "core/client.h"
+#include "core/pool.h"
 
 NTSTATUS EtwRegister(LPCGUID ProviderId, PETWENABLECALLBACK EnableCallback, PVOID CallbackContext, PREGHANDLE RegHandle)
 {
+    KZ_INSIDE_ALONE();
+    kz_uses_bytes(RegHandle, sizeof *RegHandle, KZU_WRITES);
     (void)ProviderId, (void)EnableCallback, (void)CallbackContext;
-    *RegHandle = 1;
+    *RegHandle = (REGHANDLE)(uintptr_t)kz_owe();
     return STATUS_SUCCESS;
 }
 
-/* Nothing is kept of a provider. */
 NTSTATUS EtwUnregister(REGHANDLE RegHandle)
 {
-    (void)RegHandle;
+    KZ_INSIDE_ALONE();
+    kz_pay((PVOID)(uintptr_t)RegHandle, __func__);
     return STATUS_SUCCESS;
 }
 

@@ -48,6 +48,8 @@ VOID MmBuildMdlForNonPagedPool(PMDL MemoryDescriptorList)
 {
     KZ_INSIDE_ALONE();
     kz_uses_bytes(MemoryDescriptorList, sizeof *MemoryDescriptorList, KZU_WRITES);
+    if (kz_depth == 0 && kz_is_paged(MmGetMdlVirtualAddress(MemoryDescriptorList)))
+        kz_tell(KZM_LOCKED_PAGES, __func__, "for memory that can be paged out: MmProbeAndLockPages has its pages stay");
     MemoryDescriptorList->MdlFlags |= MDL_SOURCE_IS_NONPAGED_POOL;
     MemoryDescriptorList->MappedSystemVa = MmGetMdlVirtualAddress(MemoryDescriptorList);
 }
@@ -60,6 +62,8 @@ VOID MmProbeAndLockPages(PMDL MemoryDescriptorList, KPROCESSOR_MODE AccessMode, 
     kz_uses_bytes(MemoryDescriptorList, sizeof *MemoryDescriptorList, KZU_WRITES);
     kz_uses_object(MmGetMdlVirtualAddress(MemoryDescriptorList), KZU_WRITES);
     (void)Operation;
+    if (kz_depth == 0 && MemoryDescriptorList->MdlFlags & (MDL_PAGES_LOCKED | MDL_SOURCE_IS_NONPAGED_POOL))
+        kz_tell(KZM_LOCKED_PAGES, __func__, "for an MDL whose pages stay already");
     MemoryDescriptorList->MdlFlags |= MDL_PAGES_LOCKED;
     kz_map_pages(MmGetMdlVirtualAddress(MemoryDescriptorList), true);
 }
@@ -69,6 +73,8 @@ VOID MmUnlockPages(PMDL MemoryDescriptorList)
     KZ_INSIDE_ALONE();
     kz_uses_bytes(MemoryDescriptorList, sizeof *MemoryDescriptorList, KZU_WRITES);
     kz_uses_object(MmGetMdlVirtualAddress(MemoryDescriptorList), KZU_WRITES);
+    if (kz_depth == 0 && !(MemoryDescriptorList->MdlFlags & MDL_PAGES_LOCKED))
+        kz_tell(KZM_LOCKED_PAGES, __func__, "for an MDL whose pages aren't locked");
     MemoryDescriptorList->MdlFlags &= ~MDL_PAGES_LOCKED;
     kz_map_pages(MmGetMdlVirtualAddress(MemoryDescriptorList), false);
 }

@@ -19,9 +19,16 @@
 set -eu
 case ${1:-} in -h | --help) sed -n '2,/^[^#]/s/^#\( \|$\)//p' "$0"; exit ;; esac
 here=$(cd "$(dirname "$(readlink -f "$0")")" && pwd)
+. "$here/windows.sh"
 say() {
     echo "c/build.sh: $1" >&2
 }
+given=()
+for word in "$@"; do
+    word=$(linux_path "$word") || exit 2
+    given+=("$word")
+done
+set -- ${given[@]+"${given[@]}"}
 usage() {
     sed -n '2,3s/^# //p' "$here/build.sh" >&2
     exit 2

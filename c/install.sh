@@ -15,7 +15,7 @@ share=$prefix/share/kazdrin
 mkdir -p "$share/lib" "$share/c/tests"
 cp "$library" "$share/lib/libkazdrin_c.a"
 cp "$support/libos_c.a" "$support/liblibc_c.a" "$share/lib/"
-cp -Rp "$here/include" "$here/adapt" "$here/user" "$here/host" "$here/image" "$here/explore" "$here/orders" "$here/serve" "$here/wire" "$here/fuzz" "$here/gdb" "$here/Makefile" "$here/libraries.sh" "$here/build.sh" "$here/fuzz.sh" "$share/c/"
+cp -Rp "$here/include" "$here/adapt" "$here/user" "$here/host" "$here/image" "$here/explore" "$here/orders" "$here/serve" "$here/wire" "$here/fuzz" "$here/gdb" "$here/Makefile" "$here/libraries.sh" "$here/build.sh" "$here/windows.sh" "$here/fuzz.sh" "$share/c/"
 cp -Rp "$here/tests/scenarios" "$share/c/tests/"
 mkdir -p "$share/docs" "$share/tools"
 cp -p "$here/../tools/nearest.awk" "$share/tools/"

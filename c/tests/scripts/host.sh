@@ -424,6 +424,11 @@ c/install.sh "$room/an installed tree" > "$room/install.log" 2>&1 || { cat "$roo
 tell $? "install"
 ./flt new driver "$room/a-driver" > /dev/null && c/build.sh "$room/a-driver/run" "$room/a-driver/a-driver.c" && "$room/a-driver/run" --quiet "$room/a-driver/requests.txt"
 tell $? "a new driver"
+# Paths of Windows: of a drive that is mounted, and of one that isn't.
+mkdir -p "$room/drives/c/my driver" && cp "$room/a-driver/a-driver.c" "$room/drives/c/my driver/"
+KAZDRIN_DRIVES=$room/drives c/build.sh "$room/windows" 'C:\my driver\a-driver.c' && "$room/windows" --quiet "$room/a-driver/requests.txt" &&
+    [ "$(KAZDRIN_DRIVES=$room/drives ./flt run 'D:\a.sys' 2>&1)" = "D:\\a.sys is a path of Windows: under WSL it is $room/drives/d/a.sys, and there is no $room/drives/d here" ]
+tell $? "paths of Windows"
 # The tasks of its editor, as that runs them, and what a report's line is to it.
 python3 - "$room/a-driver" << 'END'
 import json, re, subprocess, sys

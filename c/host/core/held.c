@@ -309,6 +309,9 @@ static void tell_state(void)
     if (kz_me->process != place->process)
         kz_tell(KZM_ATTACHED, "KeUnstackDetachProcess", "never called: the thread is in process %llu as the callback returns", (unsigned long long)kz_me->process);
     kz_me->process = place->process;
+    if (kz_me->top_level != place->top_level)
+        kz_tell(KZM_ATTACHED, "IoSetTopLevelIrp", "the thread's top-level IRP isn't what it was as the callback began");
+    kz_me->top_level = place->top_level;
 }
 
 /* What the callback that returns took and didn't let go. */

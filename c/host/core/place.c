@@ -50,6 +50,7 @@ KzPlace kz_enter(KzCallback callback, uint8_t worker, PFLT_FILTER filter, PFLT_I
                              .depth = before.depth + 1,
                              .worker = worker,
                              .process = kz_me->process,
+                             .top_level = kz_me->top_level,
                              .irql = before.irql,
                              .raised = before.raised,
                              .locks_from = before.locks_from,

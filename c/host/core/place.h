@@ -38,7 +38,8 @@ typedef struct KzPlace {
     uint64_t number;
     unsigned depth;
     uint8_t worker;
-    uint64_t process;    /* the thread's, as it was called */
+    uint64_t process;    /* the thread's, as it was called; and its top-level IRP */
+    PIRP top_level;
     KIRQL irql, raised;  /* at which it was called, and to which it raised that since */
     uint64_t locks_from; /* the callback whose locks, and those of callbacks after it, count for the IRQL */
     /* The call of the kit that it makes, and where; none while its own code runs. Its function, and what was asked for. */

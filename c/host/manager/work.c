@@ -211,11 +211,11 @@ static void run(PFLT_GENERIC_WORKITEM item)
     PFLT_INSTANCE instance = instance_of(item);
     uint64_t process = kz_me->process, thread = kz_me->thread;
     uint8_t worker = kz_helper();
+    kz_me->process = 4;
+    kz_me->thread = 8;
     KzPlace before = kz_enter(KZ_IN_WORK, worker, item->filter, instance, NULL, NULL);
     kz_call_at(PASSIVE_LEVEL);
     bool is_inside = instance && kz_enter_routine(instance, NULL, worker);
-    kz_me->process = 4;
-    kz_me->thread = 8;
     item->is_queued = false;
     kz.work->running++;
     unsigned depth = kz_let_driver("work item", item->routine);
@@ -228,9 +228,9 @@ static void run(PFLT_GENERIC_WORKITEM item)
     }
     kz.changes++;
     kz_keep_rest(NULL);
+    kz_leave(before);
     kz_me->process = process;
     kz_me->thread = thread;
-    kz_leave(before);
     if (is_inside)
         kz_leave_routine(worker);
     kz_helped(worker);

@@ -58,7 +58,10 @@ static VOID Count(VOID)
 static VOID Visit(PEPROCESS Process)
 {
     KAPC_STATE state;
+    PIRP top = IoGetTopLevelIrp();
 
+    IoSetTopLevelIrp((PIRP)FSRTL_FSP_TOP_LEVEL_IRP);
+    IoSetTopLevelIrp(top);
     KeStackAttachProcess((PKPROCESS)Process, &state);
     KeUnstackDetachProcess(&state);
 }

@@ -24,6 +24,24 @@ static VOID WaitForOwn(VOID)
     KeWaitForSingleObject(&event, UserRequest, UserMode, FALSE, NULL);
 }
 
+static VOID Visit(PFLT_GENERIC_WORKITEM Item, PVOID Object, PVOID Context)
+{
+    KAPC_STATE state;
+
+    UNREFERENCED_PARAMETER(Object);
+    KeStackAttachProcess((PKPROCESS)Context, &state);
+    FltFreeGenericWorkItem(Item);
+}
+
+static VOID VisitLater(PFLT_CALLBACK_DATA Data, PCFLT_RELATED_OBJECTS FltObjects)
+{
+    PFLT_GENERIC_WORKITEM item = FltAllocateGenericWorkItem();
+
+    if (item != NULL && !NT_SUCCESS(FltQueueGenericWorkItem(item, FltObjects->Instance, Visit, DelayedWorkQueue, FltGetRequestorProcess(Data)))) {
+        FltFreeGenericWorkItem(item);
+    }
+}
+
 static VOID TakeState(PFLT_CALLBACK_DATA Data, PCFLT_RELATED_OBJECTS FltObjects)
 {
     KAPC_STATE state;
@@ -80,8 +98,13 @@ static VOID TakeState(PFLT_CALLBACK_DATA Data, PCFLT_RELATED_OBJECTS FltObjects)
     case 11:
         KeEnterGuardedRegion();
         break;
+    case 12:
+        IoSetTopLevelIrp((PIRP)FSRTL_FSP_TOP_LEVEL_IRP);
+        break;
+    case 13:
+        VisitLater(Data, FltObjects);
+        break;
     }
-    UNREFERENCED_PARAMETER(Data);
 }
 
 static FLT_PREOP_CALLBACK_STATUS PreFlush(PFLT_CALLBACK_DATA Data, PCFLT_RELATED_OBJECTS FltObjects, PVOID *CompletionContext)

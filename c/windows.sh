@@ -11,8 +11,8 @@ linux_path() {
             return
             ;;
     esac
-    drive=${KAZDRIN_DRIVES:-/mnt}/$(printf %.1s "$1" | tr A-Z a-z)
-    path=$drive/$(printf %s "${1#??[\\/]}" | tr '\\' /)
+    drive=${KAZDRIN_DRIVES:-/mnt}/$(printf %.1s "$1" | tr '[:upper:]' '[:lower:]')
+    path=$drive/$(printf %s "${1#??[\\/]}" | tr '\134' /)
     if [ -d "$drive" ]; then
         printf '%s\n' "$path"
     else

@@ -6,7 +6,7 @@
 
 #include <ucontext.h>
 
-enum { BETWEEN = 6, FURTHEST = 1 << 16, MOST_FRAMES = 256 };
+enum { BETWEEN = 6, FURTHEST = 1 << 16 };
 
 /* As functions of the host and stubs have it. */
 typedef struct Frame {
@@ -46,7 +46,7 @@ static void note_callers(const void *frame, const void *from)
 }
 
 /* Where a signal came: in code of a binary, or in a copy on its behalf, whose caller is on top of the stack. */
-static KzContext context_at(const void *there)
+static void note_callers_at(const void *there)
 {
     const greg_t *registers = ((const ucontext_t *)there)->uc_mcontext.gregs;
     KzContext context;
@@ -57,40 +57,11 @@ static KzContext context_at(const void *there)
         memcpy(&context.rip, (const void *)(uintptr_t)context.integers[KZ_RSP], sizeof context.rip);
         context.integers[KZ_RSP] += sizeof context.rip;
     }
-    return context;
-}
-
-static void note_callers_at(const void *there)
-{
-    KzContext context = context_at(there);
     note(&context);
-}
-
-/* A compiler that has no try blocks leaves nothing else to its authors. */
-bool kz_stands_in_try(KzContext context)
-{
-    KzFrame frame;
-    const KzImage *image = kz_image_at(context.rip);
-    if (!image || image->headers.is_gnu)
-        return true;
-    for (unsigned count = 0; count < MOST_FRAMES; count++) {
-        uint64_t at = context.rip;
-        if (!kz_step_out(&context, &frame))
-            return false;
-        if (kz_is_in_block(&frame, at))
-            return true;
-    }
-    return false;
-}
-
-static bool is_in_try(const void *there)
-{
-    return kz_stands_in_try(context_at(there));
 }
 
 void kz_watch_callers(void)
 {
     kz_binaries.note_callers = note_callers;
     kz_binaries.note_callers_at = note_callers_at;
-    kz_binaries.is_in_try = is_in_try;
 }

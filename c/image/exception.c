@@ -175,19 +175,6 @@ FUNCLETS KZ_MS_ABI int32_t kz_c_specific_handler(KzException *exception, uint64_
     return CONTINUE_SEARCH;
 }
 
-bool kz_is_in_block(const KzFrame *frame, uint64_t pc)
-{
-    uint64_t start = (uintptr_t)frame->image->bytes.start, table = (uintptr_t)frame->data - start;
-    uint32_t count = 0;
-    Block block;
-    if (!frame->is_exception || !kz_copy(frame->image->bytes, table, &count, sizeof count))
-        return false;
-    for (uint32_t at = 0; at < count && kz_copy(frame->image->bytes, table + sizeof count + at * sizeof block, &block, sizeof block); at++)
-        if (block.target && pc - start >= block.begin && pc - start < block.end)
-            return true;
-    return false;
-}
-
 /* ---- The kit's calls that raise: raise.S has the registers of who called. */
 #define ACCESS_VIOLATION 0xc0000005u
 #define MISALIGNED 0x80000002u
@@ -204,19 +191,12 @@ void kz_raise_status(KzContext *context, int kind)
     abort();
 }
 
-static void tell_outside(const char *call, const void *from)
-{
-    KZ_INSIDE_FROM(call, from);
-    kz_tell(KZM_OUTSIDE_TRY, call, "called outside of a __try: it raises an exception if that isn't the program's memory");
-}
-
 /* As in the kit: that memory of the user's lies where it may and as it is to, and no more. */
 void kz_probe(KzContext *context, int is_write);
 void kz_probe(KzContext *context, int is_write)
 {
     uint64_t address = context->integers[KZ_RCX], length = context->integers[KZ_RDX], alignment = (uint32_t)context->integers[8];
-    if (!kz_stands_in_try(*context))
-        tell_outside(is_write ? "ProbeForWrite" : "ProbeForRead", (const void *)(uintptr_t)context->rip);
+    (void)is_write;
     if (!length)
         return;
     if (alignment > 1 && address & (alignment - 1))

@@ -4,7 +4,7 @@
 #include <stdio.h>
 #include <string.h>
 
-enum { LARGEST = 256 << 20, NATIVE = 1, WINDOW = 2, CONSOLE = 3, RELOCATIONS_STRIPPED = 1, GNU = 2 };
+enum { LARGEST = 256 << 20, NATIVE = 1, WINDOW = 2, CONSOLE = 3, RELOCATIONS_STRIPPED = 1 };
 
 /* ---- What kind of file it is. */
 static bool is_machine(unsigned machine, KzRefusal *why)
@@ -89,7 +89,6 @@ static bool check_sizes(const IMAGE_OPTIONAL_HEADER64 *from, KzHeaders *to, KzRe
     to->size = (from->SizeOfImage + KZ_PAGE - 1) & ~(uint32_t)(KZ_PAGE - 1);
     to->linked = from->ImageBase;
     to->entry = from->AddressOfEntryPoint;
-    to->is_gnu = from->MajorLinkerVersion <= GNU;
     memcpy(to->directories, from->DataDirectory, from->NumberOfRvaAndSizes * sizeof to->directories[0]);
     return true;
 }

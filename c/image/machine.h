@@ -60,13 +60,9 @@ bool kz_step_out(KzContext *context, KzFrame *frame);
 /* callers.c: where the thread stands whose fault is looked at; and what the host asks for. */
 extern _Thread_local const KzContext *kz_faulted;
 void kz_watch_callers(void);
-/* Whether a block that takes exceptions stands around the code there. */
-bool kz_stands_in_try(KzContext context);
 
 /* exception.c: goes on where a handler takes it; returns where none does. */
 void kz_raise(KzException *exception, KzContext *context);
-/* Whether the code there, of that frame, lies in a block that may take one. */
-bool kz_is_in_block(const KzFrame *frame, uint64_t pc);
 
 /* processor.c: what gs:[..] and the kernel's page of times are. */
 void kz_enter_processor(void);

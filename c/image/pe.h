@@ -42,7 +42,6 @@ typedef struct {
     uint32_t size;   /* of the image, in whole pages */
     uint32_t entry, headers;
     bool is_fixed; /* it has no relocations */
-    bool is_gnu;   /* its linker is the GNU project's, whose compiler has no try blocks */
     IMAGE_DATA_DIRECTORY directories[IMAGE_NUMBEROF_DIRECTORY_ENTRIES];
     KzSection sections[KZ_SECTIONS];
     unsigned sections_count;

@@ -60,10 +60,12 @@ static bool may_touch(const KzPiece *piece, bool is_high, uint64_t process, bool
     }
 }
 
+/* Of a binary only its compiler's tables say so, and clang's leave out what is no call: it counts as guarded. */
 bool kz_is_in_try(void)
 {
     const KzTry *innermost = kz_me->tries.innermost;
-    return innermost && innermost->callback == kz_me->place.number;
+    const struct _FLT_FILTER *filter = kz_me->place.filter;
+    return (innermost && innermost->callback == kz_me->place.number) || (filter && kz_is_binary((const void *)(uintptr_t)filter->driver->entry));
 }
 
 /* Its program may free it, or take rights away from it, while a driver touches it. */
@@ -222,10 +224,9 @@ void kz_must_be_there(const void *object, const char *kind, const char *call)
         kz_tell_of(object, KZM_PAGED_OBJECT, call, "%s in memory that can be paged out", kind);
 }
 
-/* Of a binary only the code's own place in its tables says so. */
 void kz_must_be_in_try(const char *call, const void *from, const char *why)
 {
-    if (kz_me->inside > 0 || kz_is_in_try() || kz_is_binary(from))
+    if (kz_me->inside > 0 || kz_is_in_try())
         return;
     KZ_INSIDE_FROM(call, from);
     kz_uses_own();
@@ -302,9 +303,9 @@ static void tell_code(const void *code)
 }
 
 /* What a driver may not do there. A program's own code is no driver's. */
-static bool is_wrong(const KzPiece *piece, const void *from, bool is_in_try, bool is_written)
+static bool is_wrong(const KzPiece *piece, const void *from, bool is_written)
 {
-    return !may_touch(piece, kz_irql() >= DISPATCH_LEVEL, kz_me->process, is_written) || (wants_try(piece) && !is_in_try && from);
+    return !may_touch(piece, kz_irql() >= DISPATCH_LEVEL, kz_me->process, is_written) || (wants_try(piece) && from && !kz_is_in_try());
 }
 
 static void look_at_touch(KzPiece *piece, const KzTouched *touch, bool is_inside)
@@ -312,7 +313,7 @@ static void look_at_touch(KzPiece *piece, const KzTouched *touch, bool is_inside
     const void *from = is_inside ? NULL : kz_drivers_code(touch->code, touch->caller);
     if (touch->is_written && !lies_in(touch->address, piece))
         kz_tell_past(piece, (const uint8_t *)touch->address >= piece->body, true, from);
-    else if (is_wrong(piece, is_inside ? kz_me->place.from : from, touch->is_in_try, touch->is_written))
+    else if (is_wrong(piece, is_inside ? kz_me->place.from : from, touch->is_written))
         tell_at(piece, from, touch->is_written);
 }
 
@@ -355,7 +356,7 @@ void kz_look_at_owned(const void *address, size_t size, const void *from, bool i
         return;
     for (KzPiece *piece = kz.access->first; piece; piece = piece->owned) {
         bool is_there = lies_in(address, piece) || lies_in(piece->body, &(KzPiece){.body = (uint8_t *)(uintptr_t)address, .size = size});
-        if (!is_there || !is_wrong(piece, kz_is_binary(from) ? NULL : from, kz_is_in_try(), is_written))
+        if (!is_there || !is_wrong(piece, from, is_written))
             continue;
         KZ_INSIDE_UNSAID();
         tell_at(piece, from, is_written);

@@ -52,7 +52,6 @@ typedef struct {
     bool (*raise)(int signal, void *information, void *context);
     void (*note_callers)(const void *frame, const void *from); /* as kz_note_callers (core/frame.h), of the client's place */
     void (*note_callers_at)(const void *context);              /* the same where a signal came */
-    bool (*is_in_try)(const void *context);                    /* whether a block that takes exceptions stands around where a signal came */
     bool (*find_line)(uintptr_t address, char *room, size_t size);
     const char *(*find_path)(uintptr_t address, unsigned *line);        /* of the source; NULL if it isn't known */
     bool (*find_variable)(uintptr_t address, char *room, size_t size); /* its name, and how far it is behind it */

@@ -2,7 +2,6 @@
 #define _GNU_SOURCE
 #include "core/crash.h"
 
-#include "core/access.h"
 #include "core/client.h"
 #include "core/frame.h"
 #include "core/piece.h"
@@ -158,12 +157,6 @@ const void *kz_driver_at(const void *context)
     return driver_at(context, stack_of(NULL, context));
 }
 
-static bool is_in_try(const void *context)
-{
-    const void *code = kz_code_at(context);
-    return kz_is_binary(code) || kz_is_stub(code) ? kz_binaries.is_in_try(context) : kz_is_in_try();
-}
-
 /* Memory that was given back was touched: that is told, and the program goes on. */
 static bool is_touch(int signal, const siginfo_t *information, const void *context)
 {
@@ -175,7 +168,7 @@ static bool is_touch(int signal, const siginfo_t *information, const void *conte
     bool is_written = false;
 #endif
     note_callers(context, stack);
-    return signal == SIGSEGV && kz_touched(&(KzTouched){information->si_addr, kz_code_at(context), caller, is_written, is_in_try(context)});
+    return signal == SIGSEGV && kz_touched(&(KzTouched){information->si_addr, kz_code_at(context), caller, is_written});
 }
 
 /* Also what a binary may not do by itself in this process, or takes for an exception. */

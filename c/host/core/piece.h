@@ -75,10 +75,10 @@ void kz_tell_pools(PFLT_FILTER filter);
 /* The call that alone may free what another call of the kit made; NULL if that isn't so. */
 const char *kz_unmaker_of(const KzPiece *piece);
 void kz_tell_gone(void);
-/* A touch that the processor refused: by which code, and who called that, if it keeps nothing on the stack. A block that takes exceptions may stand around it. */
+/* A touch that the processor refused: by which code, and who called that, if it keeps nothing on the stack. */
 typedef struct {
     const void *address, *code, *caller;
-    bool is_written, is_in_try;
+    bool is_written;
 } KzTouched;
 /* Whether it is of memory that was given back. That is told, and may be touched from then on. */
 bool kz_touched(const KzTouched *touch);

@@ -25,21 +25,29 @@ def number_of(data):
     return int(data[:8]) if data[:8].isdigit() and data == content(int(data[:8])) else data[:20] + b".." + data[-20:]
 
 
-def write(folder, number):
-    """One safe write."""
-    file = os.open(os.path.join(folder, "cfg.tmp"), os.O_CREAT | os.O_WRONLY | os.O_TRUNC, 0o644)
+def write_in(place, number):
+    """One safe write in an open folder, which stays that of the mount when the mount point is a plain folder again."""
+    file = os.open("cfg.tmp", os.O_CREAT | os.O_WRONLY | os.O_TRUNC, 0o644, dir_fd=place)
     os.write(file, content(number))
     os.fsync(file)
     os.close(file)
-    os.rename(os.path.join(folder, "cfg.tmp"), os.path.join(folder, "cfg"))
+    os.rename("cfg.tmp", "cfg", src_dir_fd=place, dst_dir_fd=place)
+
+
+def write(folder, number):
+    """One safe write."""
+    place = os.open(folder, os.O_RDONLY | os.O_DIRECTORY)
+    write_in(place, number)
+    os.close(place)
 
 
 def write_on(folder, number):
     """One after the other, until one fails. Each that was acknowledged is said."""
     try:
+        place = os.open(folder, os.O_RDONLY | os.O_DIRECTORY)
         while True:
             number += 1
-            write(folder, number)
+            write_in(place, number)
             os.write(1, b"%d\n" % number)
     except OSError:
         pass

@@ -229,7 +229,7 @@ PFILE_LOCK FltAllocateFileLock(PFLT_COMPLETE_LOCK_CALLBACK_DATA_ROUTINE Complete
 
 VOID FltFreeFileLock(PFILE_LOCK FileLock)
 {
-    KZ_INSIDE_ALONE();
+    KZ_CALL();
     FltUninitializeFileLock(FileLock);
     ExFreePool(FileLock);
 }

@@ -317,15 +317,21 @@ def abandoned(command):
         for _ in range(10):
             leave_reads(server, 24)
         expect("a flush", client.flush(handle).status, OK)
-        expect("a write behind it", client.write(handle, 0, b"HELLO")[:2], (OK, 5))
+        expect("a write behind it", once_there_is_room(lambda: client.write(handle, 0, b"HELLO"))[:2], (OK, 5))
         for _ in range(10):
             leave_reads(server, 24)
         expect("a detach", client.detach(0).status, OK)
-        end = time.monotonic() + PATIENCE
-        while client.create("new", ALWAYS).status == TOO_MANY and time.monotonic() < end:
-            pass  # what was let go is still on its way
-        expect("a create", client.create("new", ALWAYS).status, OK)
+        expect("a create", once_there_is_room(lambda: client.create("new", NEW)).status, OK)
         expect("a read", client.read(handle, 0, 9), (OK, 5, b"HELLO"))
+
+
+def once_there_is_room(ask):
+    """A reply, asked for anew as long as what was let go is still on its way."""
+    end = time.monotonic() + PATIENCE
+    reply = ask()
+    while reply.status == TOO_MANY and time.monotonic() < end:
+        reply = ask()
+    return reply
 
 
 def leave_reads(server, count):

@@ -255,6 +255,7 @@ for kind in "$@"; do
     if why=$(may_mount); then
         mkdir -p "$room/served-$kind"
         cp $tests/serve/drivers/*.c "$room/served-$kind"
+        rm "$room/served-$kind/names.c" # mingw-w64's headers have no flags of a rename
         cp c/samples/passthrough.c "$room/served-$kind/meter.c"
         cp c/samples/nullfilter.c "$room/served-$kind/carry.c"
         for source in "$room/served-$kind"/*.c; do
@@ -262,7 +263,7 @@ for kind in "$@"; do
         done
         printf '#!/bin/sh\nexec "%s/serve" "%s/served-%s"/*.sys "$@"\n' "$room" "$room" "$kind" > "$room/server-$kind"
         chmod +x "$room/server-$kind"
-        $tests/mount/check.py --server "$room/server-$kind" --mount "$room/fltmount" calls late > "$room/out" 2>&1 || { cat "$room/out"; false; }
+        $tests/mount/check.py --server "$room/server-$kind" --mount "$room/fltmount" --renames all --wide calls late > "$room/out" 2>&1 || { cat "$room/out"; false; }
         tell $? "a mount above a server by $kind"
     else
         untried "$why, for the mount above binaries"

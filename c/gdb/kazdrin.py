@@ -211,7 +211,7 @@ class Ops(gdb.Command):
             name = major_name(int(block["MajorFunction"])) if int(block) else "event %d" % int(op["event"])
             stage = str(op["stage"]).replace("KZ_", "").replace("_", " ").lower()
             holder = ", instance %s" % chars(op["holder"]["name"]) if int(op["holder"]) else ""
-            path = chars(op["file"]["path"]) if int(op["file"]) else ""
+            path = op["file"]["path"].string() if int(op["file"]) else ""
             request = ", line %d: %s" % (int(op["line"]), op["request"].string()) if int(op["request"]) else ""
             gdb.write("operation %d  %s  \\%s  %s%s%s\n" % (int(op["id"]), name, path, stage, holder, request))
         if not count:

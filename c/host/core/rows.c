@@ -18,7 +18,7 @@ typedef struct {
 typedef struct {
     const char *program;
     uintptr_t from;
-    KzWanted *wanted;
+    KzWanted *takes;
     const void *given;
     File files[NAMES_OF_A_UNIT];
     size_t files_count;
@@ -65,7 +65,7 @@ static void read_row(Reader *reader, char *row)
     unsigned line = (unsigned)strtoul(name_end, NULL, 10);
     while (name_end > row && name_end[-1] == ' ')
         *--name_end = 0;
-    if (!line || !*row || !reader->wanted(reader->given, in_file + reader->from))
+    if (!line || !*row || !reader->takes(reader->given, in_file + reader->from))
         return;
     uint32_t path = path_of(reader, row, in_file);
     if (path)
@@ -103,7 +103,7 @@ static void read_functions(const Reader *reader)
         char *rest;
         uintptr_t at = strtoul(row, &rest, 16) + reader->from;
         bool is_code = rest > row && (rest[1] == 't' || rest[1] == 'T') && rest[2] == ' ';
-        const char *name = is_code && reader->wanted(reader->given, at) ? name_of(rest + 3) : NULL;
+        const char *name = is_code && reader->takes(reader->given, at) ? name_of(rest + 3) : NULL;
         if (name)
             kz_add_function(at, name);
     }
@@ -116,7 +116,7 @@ void kz_add_rows(const char *program, uintptr_t from, KzWanted *wanted, const vo
     Reader *reader = calloc(1, sizeof *reader);
     if (!reader)
         return;
-    *reader = (Reader){.program = program, .from = from, .wanted = wanted, .given = given};
+    *reader = (Reader){.program = program, .from = from, .takes = wanted, .given = given};
     read_rows(reader);
     read_functions(reader);
     free(reader);
